@@ -1,0 +1,5 @@
+pub mod Answers
+pub mod Faults
+pub mod Guid
+pub mod Image
+pub mod Table
