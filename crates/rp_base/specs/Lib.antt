@@ -2,4 +2,5 @@ pub mod Answers
 pub mod Faults
 pub mod Guid
 pub mod Image
+pub mod List
 pub mod Table

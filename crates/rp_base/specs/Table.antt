@@ -1,5 +1,5 @@
 -- The condition under which a table can be written as a copy (UEFI 2.10, 5.3.3).
-use Rattle.std.specs.Prelude.{ℕ, ◌≡◌, ◌≢◌, ◌<◌, ◌≤◌, ◌+◌, ◌^◌, List, All, AllPairs, map, replicate}
+use Rattle.std.specs.Prelude.{◌≢◌, ◌<◌, ◌≤◌, ◌+◌, ◌^◌, All, AllPairs, replicate}
 use Rattle.rp_base.specs.declared.table.Row.{Row}
 use Rattle.rp_base.specs.declared.table.Table.{Table}
 

@@ -6,6 +6,7 @@
 mod faults;
 mod guid;
 mod list;
+mod seen;
 mod table;
 mod text;
 mod want;
@@ -13,6 +14,7 @@ mod want;
 pub use faults::{Failed, Memory};
 pub use guid::Guid;
 pub use list::List;
+pub use seen::{Mbr, Origin, Seen};
 pub use table::{Row, Table};
 pub use text::Text;
 pub use want::Want;

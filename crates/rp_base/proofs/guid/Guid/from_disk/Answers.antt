@@ -1,4 +1,4 @@
-use Rattle.std.proofs.Common.{◌≡◌, ◌∙◌, rules, length, arith, ap}
+use Rattle.std.proofs.Common.{◌∙◌, rules, ap}
 use Rattle.rp_base.proofs.GuidLemmas.{twice}
 use Rattle.rp_base.specs.Guid.{disk_order}
 use Rattle.rp_base.proofs.guid.Guid.from_disk.Goals as goal
