@@ -4,3 +4,4 @@ pub mod Guid
 pub mod Image
 pub mod List
 pub mod Table
+pub mod Wants
