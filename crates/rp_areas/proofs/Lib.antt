@@ -1,0 +1,10 @@
+pub mod Chain
+pub mod Clear
+pub mod Facts
+pub mod Laid
+pub mod Loops
+pub mod Matched
+pub mod Order
+pub mod Places
+pub mod Ranks
+pub mod Rows

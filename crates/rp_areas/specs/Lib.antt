@@ -1,0 +1,5 @@
+pub mod Areas
+pub mod Counting
+pub mod Extents
+pub mod Facts
+pub mod Matching

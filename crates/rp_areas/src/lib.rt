@@ -1,0 +1,13 @@
+//! Which rows of a table belong to which definitions, and the areas between the rows.
+#![tactic(auto)]
+
+mod behind;
+mod extents;
+mod gaps;
+mod matching;
+
+pub use gaps::{Area, AreaFault, areas};
+pub use matching::assign;
+
+#[cfg(test)]
+mod tests;

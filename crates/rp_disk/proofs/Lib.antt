@@ -1,0 +1,8 @@
+mod KeptLemmas
+pub mod Pushing
+pub mod Blocks
+pub mod Ranges
+pub mod OneCall
+pub mod Law
+pub mod Opened
+pub mod Runs

@@ -1,0 +1,12 @@
+pub mod Calls
+pub mod Stops
+pub mod Blocks
+pub mod Ranges
+pub mod History
+pub mod Runs
+pub mod MemDisk
+pub mod FileDisk
+pub mod Kept
+pub mod Record
+pub mod Agreeing
+pub mod KeptShown

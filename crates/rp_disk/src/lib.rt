@@ -1,0 +1,15 @@
+//! A disk: what it shows, and what a stop at any moment may leave of it.
+#![tactic(auto)]
+
+mod call;
+mod disk;
+mod file;
+mod mem;
+mod record;
+mod stops;
+
+pub use call::Call;
+pub use disk::Disk;
+pub use file::FileDisk;
+pub use mem::MemDisk;
+pub use stops::{moments_law, one_call_law, opening_law, settled_law, stops_law};

@@ -1,0 +1,94 @@
+ghost use Rattle.std.specs.Prelude.{◌≡◌, Some, ◌+◌, ◌*◌, ◌<◌, ◌^◌, ◌∷◌, length, IfSome, OnOk, OnErr};
+ghost use Rattle.rp_base.specs.Faults.{HasCause};
+ghost use Rattle.rp_disk.specs.Calls.{all_done};
+ghost use Rattle.rp_disk.specs.History.{IsSettled, all_did, shown};
+ghost use Rattle.rp_disk.specs.Runs.{AtAnyMoment, AtAnyMomentBehindSync, FailedIn};
+ghost use Rattle.rp_disk_example.specs.Copies.{two_writes, row_of, settled_row};
+
+use rp_base::Failed;
+use rp_disk::{Call, Disk};
+
+// The calls of `two_copies`.
+fn make_two<D: Disk>(disk: &mut D, first: u64, second: u64, bytes: &[u8]) -> Result<(), Failed>
+    ensures did { IfSome (D.told disk.old) (λ start. OnOk result (D.told disk.new ≡ Some (all_did start (two_writes first second bytes.now)))) }
+    ensures failed { IfSome (D.told disk.old) (λ start. OnErr result (FailedIn start (two_writes first second bytes.now) (D.told disk.new))) }
+    ensures cause { HasCause (D.faults disk.old) (D.faults disk.new) result }
+{
+    disk.write(first, bytes)?;
+    disk.sync()?;
+    disk.write(second, bytes)?;
+    disk.sync()?;
+    Ok(())
+}
+
+/// Writes the bytes at two places, each settled by a sync.
+pub fn two_copies<D: Disk>(
+    disk: &mut D,
+    first: u64,
+    second: u64,
+    bytes: &[u8],
+) -> Result<(), Failed>
+    ensures done { IfSome (D.told disk.old) (λ start. OnOk result
+        (IfSome (D.told disk.new) (λ now. IsSettled now × (shown now ≡ all_done (shown start) (two_writes first second bytes.now))))) }
+    ensures any_moment { IfSome (D.told disk.old) (λ start. IsSettled start → AtAnyMoment start (two_writes first second bytes.now) (D.told disk.new)) }
+    ensures cause { HasCause (D.faults disk.old) (D.faults disk.new) result }
+{
+    make_two(disk, first, second, bytes)
+}
+
+// Writes the bytes this often, one behind the other.
+fn write_row<D: Disk>(disk: &mut D, at: u64, count: u64, bytes: &[u8]) -> Result<(), Failed>
+    requires { at + count * length bytes.now < 2 ^ 64 }
+    ensures did { IfSome (D.told disk.old) (λ start. OnOk result (D.told disk.new ≡ Some (all_did start (row_of at count bytes.now)))) }
+    ensures failed { IfSome (D.told disk.old) (λ start. OnErr result (FailedIn start (row_of at count bytes.now) (D.told disk.new))) }
+    ensures cause { HasCause (D.faults disk.old) (D.faults disk.new) result }
+{
+    let size = bytes.len() as u64;
+    for i in 0..count {
+        disk.write(at + i * size, bytes)?;
+    }
+    Ok(())
+}
+
+// The calls of `fill`.
+fn make_row<D: Disk>(disk: &mut D, at: u64, count: u64, bytes: &[u8]) -> Result<(), Failed>
+    requires { at + count * length bytes.now < 2 ^ 64 }
+    ensures did { IfSome (D.told disk.old) (λ start. OnOk result (D.told disk.new ≡ Some (all_did start (Call.Sync ∷ settled_row at count bytes.now)))) }
+    ensures failed { IfSome (D.told disk.old) (λ start. OnErr result (FailedIn start (Call.Sync ∷ settled_row at count bytes.now) (D.told disk.new))) }
+    ensures cause { HasCause (D.faults disk.old) (D.faults disk.new) result }
+{
+    disk.sync()?;
+    write_row(disk, at, count, bytes)?;
+    disk.sync()?;
+    Ok(())
+}
+
+/// Writes the bytes this often, one behind the other, between two syncs.
+pub fn fill<D: Disk>(disk: &mut D, at: u64, count: u64, bytes: &[u8]) -> Result<(), Failed>
+    requires { at + count * length bytes.now < 2 ^ 64 }
+    ensures done { IfSome (D.told disk.old) (λ start. OnOk result
+        (IfSome (D.told disk.new) (λ now. IsSettled now × (shown now ≡ all_done (shown start) (Call.Sync ∷ settled_row at count bytes.now))))) }
+    ensures any_moment { IfSome (D.told disk.old) (λ start. AtAnyMomentBehindSync start (settled_row at count bytes.now) (D.told disk.new)) }
+    ensures cause { HasCause (D.faults disk.old) (D.faults disk.new) result }
+{
+    make_row(disk, at, count, bytes)
+}
+
+#[cfg(test)]
+mod tests {
+    use super::*;
+    use rp_base::List;
+    use rp_disk::MemDisk;
+    use std::test::Fail;
+
+    #[test]
+    fn copies_and_rows(rt: HostRuntime) -> Result<(), Fail> {
+        let bytes = List::from_vec([0u8; 8].to_vec(rt.alloc())?);
+        let mut disk = MemDisk::new(rt.alloc(), bytes, List::new(rt.alloc()));
+        assert!(rt; two_copies(&mut disk, 0, 6, &[1, 2]).is_ok());
+        assert!(rt; fill(&mut disk, 2, 2, &[3, 4]).is_ok());
+        assert_eq!(rt; disk.bytes(), [1, 2, 3, 4, 3, 4, 1, 2].as_slice());
+        assert_eq!(rt; disk.calls().len(), 8);
+        Ok(())
+    }
+}

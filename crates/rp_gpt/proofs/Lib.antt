@@ -1,0 +1,15 @@
+pub mod Parts
+pub mod Slots
+pub mod Passes
+pub mod Writable
+pub mod Put
+pub mod Entries
+pub mod Fields
+pub mod Rising
+pub mod RowEntry
+pub mod Header
+pub mod ReadsBack
+pub mod ExactParts
+pub mod Units
+pub mod Primary
+pub mod Rows

@@ -1,0 +1,6 @@
+pub mod DecodeLemmas
+pub mod FileLemmas
+pub mod LineLemmas
+pub mod LogicalLemmas
+pub mod TextLemmas
+pub mod TrimLemmas

@@ -1,0 +1,20 @@
+//! Definition files: sections of assignments, by the grammar of systemd.syntax(7).
+#![tactic(auto)]
+
+mod assign;
+mod decode;
+mod draft;
+mod fault;
+mod file;
+mod line;
+mod lines;
+mod logical;
+mod parser;
+#[cfg(test)]
+mod tests;
+mod trim;
+
+pub use assign::Assign;
+pub use fault::IniFault;
+pub use file::File;
+pub use parser::parse;

@@ -1,0 +1,9 @@
+pub mod Faults
+pub mod Files
+pub mod HostFolders
+pub mod HostSink
+pub mod HostSources
+pub mod MemFolders
+pub mod MemSink
+pub mod MemSources
+pub mod Sink

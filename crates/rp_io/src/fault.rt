@@ -1,0 +1,24 @@
+ghost use Rattle.std.specs.Prelude.{◌≡◌};
+ghost use Rattle.rp_io.specs.declared.fault.IoFault.TheVariants.{Memory as no_memory};
+
+use rp_base::Memory;
+use thiserror::Error;
+
+/// Why a call on folders gave no answer.
+#[derive(Clone, Copy, Debug, PartialEq, Eq, Error)]
+pub enum IoFault {
+    /// The call failed, and the folders' count of faults rose.
+    #[error("the folders failed")]
+    Failed,
+    /// There was no memory for the answer.
+    #[error("out of memory")]
+    Memory,
+}
+
+impl From<Memory> for IoFault {
+    ghost from_gives = { λ _ fault. fault ≡ no_memory };
+
+    fn from(_: Memory) -> Self {
+        IoFault::Memory
+    }
+}

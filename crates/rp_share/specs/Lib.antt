@@ -1,0 +1,4 @@
+pub mod Due
+pub mod Level
+pub mod Share
+pub mod Value

@@ -1,0 +1,4 @@
+pub mod Designators
+pub mod Guids
+pub mod Rules
+pub mod Types
