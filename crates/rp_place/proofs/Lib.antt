@@ -1,0 +1,4 @@
+pub mod Best
+pub mod Keeps
+pub mod Thresholds
+pub mod Walk

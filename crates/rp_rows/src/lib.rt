@@ -1,0 +1,7 @@
+//! Worked runs of the program over disks in memory. It ships nothing.
+#![tactic(auto)]
+
+#[cfg(test)]
+mod images;
+#[cfg(test)]
+mod show;

@@ -1,0 +1,3 @@
+mod FromPlace
+mod Judging
+mod Reading

@@ -1,0 +1,67 @@
+//! The rows of a table that is shown: each within the usable sectors, and no two on one sector.
+
+ghost use Rattle.std.specs.Prelude.{◌≡◌, ◌+◌, ◌^◌, ◌<◌, ◌&&◌, nat_le, All, find, option_map};
+ghost use Rattle.rp_base.specs.Table.{IsWritableRow};
+ghost use Rattle.rp_gpt.specs.Shown.{row_outside, share_sector, overlap};
+
+use rp_base::{Row, Table};
+
+/// The slot of the first row that isn't within the usable sectors.
+pub fn outside_slot(table: &Table) -> Option<u16>
+    requires rows { All IsWritableRow table.now.rows }
+    requires last { table.now.last + 1 < 2 ^ 64 }
+    ensures { result ≡ option_map (λ row. row.slot) (row_outside table.now) }
+{
+    for row in table.rows.as_slice() {
+        if !is_within(row, table.first, table.last) {
+            return Some(row.slot);
+        }
+    }
+    None
+}
+
+/// Whether a row lies from a first to a last sector.
+fn is_within(row: &Row, first: u64, last: u64) -> bool
+    requires row { IsWritableRow row.now }
+    requires last { last + 1 < 2 ^ 64 }
+    ensures { result ≡ (nat_le first row.now.start && nat_le (row.now.start + row.now.size) (last + 1)) }
+{
+    first <= row.start && row.start + row.size <= last + 1
+}
+
+/// The slots of the first row that shares a sector with a later one, and of the first such row. 128 rows have 8,128
+/// pairs, so each is looked at.
+pub fn overlapping_slots(rows: &[Row]) -> Option<(u16, u16)>
+    requires { All IsWritableRow rows.now }
+    ensures { result ≡ option_map (λ pair. (pair.0.slot, pair.1.slot)) (overlap rows.now) }
+{
+    for (i, row) in rows.iter().enumerate() {
+        if let Some(later) = sharing_slot(row, &rows[i + 1..]) {
+            return Some((row.slot, later));
+        }
+    }
+    None
+}
+
+/// The slot of the first of some rows that shares a sector with a row.
+fn sharing_slot(row: &Row, others: &[Row]) -> Option<u16>
+    requires row { IsWritableRow row.now }
+    requires others { All IsWritableRow others.now }
+    ensures { result ≡ option_map (λ other. other.slot) (find (share_sector row.now) others.now) }
+{
+    for other in others {
+        if shares_sector(row, other) {
+            return Some(other.slot);
+        }
+    }
+    None
+}
+
+/// Whether two rows share a sector.
+fn shares_sector(a: &Row, b: &Row) -> bool
+    requires a { IsWritableRow a.now }
+    requires b { IsWritableRow b.now }
+    ensures { result ≡ share_sector a.now b.now }
+{
+    a.start < b.start + b.size && b.start < a.start + a.size
+}
