@@ -1,8 +1,7 @@
 -- Where new partitions go (repart.d(5), Priority=: of what doesn't fit, the highest numbers are dropped first, those of 0 or lower never; the choice of the area is this project's own).
-use Rattle.std.specs.Prelude.{ℕ, ℤ, pos, ◌+◌, ◌-◌, ◌≤ℤ◌, ◌<ℤ◌, ◌≡◌, ◌^◌, ◌==◌, nat_lt, nat_le, if◌then◌else◌, max, Bool, false, ◌&&◌, ◌||◌, Option, Some, None, Result, Ok, Err, List, [], ◌∷◌, map, fold, filter, slice_get, slice_index, slice_set, IsOk, IsErr, ◌<◌, ◌≤◌, All, IfSome, is_some, length}
+use Rattle.std.specs.Prelude.{ℕ, ℤ, pos, ◌+◌, ◌-◌, ◌≤ℤ◌, ◌<ℤ◌, ◌≡◌, ◌^◌, ◌==◌, nat_lt, nat_le, if◌then◌else◌, max, Bool, false, ◌&&◌, ◌||◌, Option, Some, None, Result, Ok, Err, List, [], ◌∷◌, map, fold, filter, slice_get, slice_index, slice_set, IsOk, IsErr, ◌<◌, ◌≤◌, All, IfSome, is_some, length, int_le}
 use Rattle.std.specs.List.{enumerate_from, AllZip}
 use Rattle.std.specs.Option.{option_map_or}
-use Rattle.std.specs.Prelude.{int_le}
 use Rattle.rp_areas.specs.declared.gaps.Area.{Area}
 use Rattle.rp_place.specs.declared.fit.Candidate.{Candidate}
 use Rattle.rp_place.specs.declared.fit.New.{New}

@@ -1,4 +1,4 @@
-use Rattle.std.proofs.Common.{ℕ, ◌≡◌, ◌+◌, ◌*◌, ◌%◌, ◌<◌, ◌≤◌, sym, inl, inr, arith}
+use Rattle.std.proofs.Common.{◌≡◌, ◌%◌, ◌<◌, sym, inl, inr}
 use Rattle.rp_disk.specs.History.{shown}
 use Rattle.rp_table.proofs.Reading.{if_told, accepted-long, accepted-short, no_stray_read, accepted_read}
 use Rattle.rp_table.proofs.image.read.Goals as goal

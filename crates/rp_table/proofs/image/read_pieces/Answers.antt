@@ -1,4 +1,4 @@
-use Rattle.std.proofs.Common.{ℕ, ◌≡◌, ◌∙◌, ◌+◌, ◌*◌, ◌≤◌, length, replicate, refl, arith}
+use Rattle.std.proofs.Common.{ℕ, ◌∙◌, refl, arith}
 use Rattle.std.proofs.lemmas.List.{length-replicate}
 use Rattle.rp_table.proofs.Reading.{no_stray, no_more_strays, pieces_read}
 use Rattle.rp_table.proofs.image.read_pieces.Goals as goal

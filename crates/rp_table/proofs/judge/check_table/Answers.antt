@@ -1,4 +1,4 @@
-use Rattle.std.proofs.Common.{ℕ, List, Option, option_map, ◌≡◌, ◌∙◌, sym, ap, inl, inr, arith}
+use Rattle.std.proofs.Common.{ℕ, List, Option, option_map, ◌∙◌, sym, ap, inl, inr, arith}
 use Rattle.rp_base.specs.declared.table.Row.{Row}
 use Rattle.rp_gpt.specs.Shown.{overlap}
 use Rattle.rp_table.proofs.Judging.{checked-bounds, checked-short, checked-rows, unless_slot, unless_no_slot, unless_slots, unless_no_slots}

@@ -1,4 +1,4 @@
-use Rattle.std.proofs.Common.{◌≡◌, ◌∙◌, sym, ap, refl, Ok, Err}
+use Rattle.std.proofs.Common.{◌∙◌, sym, ap, refl, Ok}
 use Rattle.std.proofs.lemmas.Result.{err_from_is_err_and}
 use Rattle.rp_gpt.specs.Shown.{accepted_table}
 use Rattle.rp_table.proofs.Judging.{accepted-not_empty, accepted-fault, accepted-seen, seen-same}

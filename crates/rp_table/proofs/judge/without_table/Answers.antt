@@ -1,4 +1,4 @@
-use Rattle.std.proofs.Common.{◌≡◌, ◌∙◌, sym, ap, None, Ok, refl, arith}
+use Rattle.std.proofs.Common.{◌∙◌, sym, ap, refl, arith}
 use Rattle.rp_gpt.specs.Shown.{accepted_blank}
 use Rattle.rp_table.proofs.Judging.{blank-foreign, blank-refused, blank-short, blank-seen}
 use Rattle.rp_table.proofs.judge.without_table.Goals as goal

@@ -1,6 +1,5 @@
-use Rattle.std.proofs.Common.{ℕ, ◌≡◌, ◌+◌, ◌∙◌, sym, ap, length, drop, get_or, find, option_map, arith}
+use Rattle.std.proofs.Common.{ℕ, ◌+◌, ◌∙◌, sym, ap, option_map, arith}
 use Rattle.std.proofs.lemmas.List.{take_rest}
-use Rattle.rp_gpt.specs.Shown.{share_sector, overlap}
 use Rattle.rp_table.proofs.FromPlace.{overlap_past, overlap_here, overlap_end}
 use Rattle.rp_table.proofs.rows.overlapping_slots.Goals as goal
 
