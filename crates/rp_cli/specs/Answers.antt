@@ -11,15 +11,15 @@ refusal_line status =
     else if status == 10 then Some []
     else None
 
--- these bytes were printed, or a first part of them where the sink failed
+-- behind the bytes taken so far these were printed, or a first part of them where the sink's count of failures rose
 pub record Prints (taken bytes : List ℕ) (told : Option (List ℕ)) (before now : ℕ) : Type 0 where
   pub part : TookPart taken bytes told
   pub whole : (told ≡ Some (taken ++ bytes)) ⊎ Rose before now
 
--- where the sink tells, all these bytes were printed
+-- where the sink tells what it had taken before and has taken now, all these bytes were printed
 pub record PrintsAll (before : Option (List ℕ)) (bytes : List ℕ) (now : Option (List ℕ)) : Type 0 where
   pub all : IfSome before (λ taken. now ≡ Some (taken ++ bytes))
 
--- where the sink tells, a first part of these bytes was printed
+-- where the sink tells both, a first part of these bytes was printed
 pub record PrintsPart (before : Option (List ℕ)) (bytes : List ℕ) (now : Option (List ℕ)) : Type 0 where
   pub part : IfSome before (λ taken. TookPart taken bytes now)

@@ -6,7 +6,7 @@ use Rattle.rp_gpt.specs.declared.table_fault.TableFault.{TableFault}
 use Rattle.rp_gpt.specs.declared.table_fault.TableFault.TheVariants.{Disk, TooLong, TooShort, ArrayPlace, EntryCount, OtherTable, NoTable, NotEmpty, Bounds, RowRange, Overlap, Memory}
 use Rattle.rp_report.specs.Tables.{show_bytes}
 
--- the kind of a fault
+-- the kind of a fault; a failure of the disk and want of memory have lines of their own, below
 unfoldable pub fault_name : TableFault → List ℕ
 fault_name Disk = codes "Disk"
 fault_name (TooLong len) = codes "TooLong"

@@ -21,8 +21,8 @@ use std::alloc::Global;
 ///
 /// `show IMAGE` prints the table that the image shows. The disk is the image; `IMAGE` itself is for the caller.
 ///
-/// Statuses, the first that comes of 2, 7, 4, 10 and 9: 0 done; 2 the words aren't canonical; 4 the image isn't
-/// accepted; 7 the disk failed; 9 the sink failed; 10 out of memory. A status but 0, 9 and 10 prints its line
+/// Statuses: 0 done; 2 the words aren't canonical; 4 the image isn't accepted; 7 the disk failed; 9 the sink failed
+/// once all else was done; 10 out of memory, in the place of 0, 4 or 9. A status but 0, 9 and 10 prints its line
 /// `error STATUS ..`.
 pub fn run<D: Disk, K: Sink>(alloc: Global, words: &[String], disk: &mut D, out: &mut K) -> u8
     ensures statuses { (result ≡ 0) ⊎ (result ≡ 2) ⊎ (result ≡ 4) ⊎ (result ≡ 7) ⊎ (result ≡ 9) ⊎ (result ≡ 10) }

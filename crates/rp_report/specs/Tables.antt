@@ -20,7 +20,7 @@ use Rattle.rp_report.specs.Names.{name_text}
 unfoldable pub kind_text : Guid → List ℕ
 kind_text kind = unwrap_or (by_guid kind) (guid_text kind)
 
--- the copy that is shown; of an image that shows none nothing is printed
+-- the copy that is shown; the text of an image that shows none is never asked for
 abbrev pub origin_text : Origin → List ℕ
 origin_text Primary = codes "primary"
 origin_text Backup = codes "backup"
