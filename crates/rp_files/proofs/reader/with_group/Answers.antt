@@ -1,0 +1,24 @@
+use Rattle.std.proofs.Common.{subst, sym}
+use Rattle.std.specs.Prelude.{IsSome}
+use Rattle.rp_io.specs.Files.{content}
+use Rattle.rp_files.specs.Found.{found_of, AreThere}
+use Rattle.rp_files.proofs.ReadLemmas.{head_there, tail_there, strays_by, strays_more}
+use Rattle.rp_files.proofs.reader.with_group.Goals as goal
+
+pub returns-in_err-bytes-clause-strays : goal.returns-in_err-bytes-clause-strays
+returns-in_err-bytes-clause-strays g c =
+    strays_by (g.F.Folders.told c.args.folders.now) _ _ _ _ c.read_bytes.ensures.strays
+    (λ tree there. subst (λ p. IsSome (content tree.files p)) (sym c.as_str.ensures.value) (head_there tree _ _ there))
+
+pub returns-then-len-eq0-clause-strays : goal.returns-then-len-eq0-clause-strays
+returns-then-len-eq0-clause-strays g c =
+    strays_by (g.F.Folders.told c.args.folders.now) _ _ _ _ c.read_bytes.ensures.strays
+    (λ tree there. subst (λ p. IsSome (content tree.files p)) (sym c.as_str.ensures.value) (head_there tree _ _ there))
+
+pub returns-clause-strays : goal.returns-clause-strays
+returns-clause-strays g c =
+    strays_more (g.F.Folders.told c.args.folders.now) (g.F.Folders.told c.read_bytes.new.folders) _ _ _ _ _ c.read_bytes.ensures.told
+    (strays_by (g.F.Folders.told c.args.folders.now) _ _ _ _ c.read_bytes.ensures.strays
+    (λ tree there. subst (λ p. IsSome (content tree.files p)) (sym c.as_str.ensures.value) (head_there tree _ _ there)))
+    c.with_parts.ensures.strays
+    (λ tree there. subst (λ fs. AreThere tree (found_of fs)) (sym c.as_slice.ensures.value) (tail_there tree _ _ there))

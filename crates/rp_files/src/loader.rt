@@ -1,0 +1,155 @@
+ghost use Rattle.std.specs.Prelude.{◌≡◌, nat_lt, map, IfSome};
+ghost use Rattle.rp_files.specs.Pieces.{pieces, count_of};
+ghost use Rattle.rp_files.specs.Faults.{HasLoadCause, Loads};
+ghost use Rattle.rp_files.specs.Found.{group_of};
+
+use crate::found::{Group, groups};
+use crate::reader::with_group;
+use crate::{LoadFault, Piece};
+use rp_base::{List, Text};
+use rp_io::Folders;
+use std::alloc::Global;
+
+/// Names that may win.
+const MOST_NAMES: usize = 256;
+
+/// The pieces of these folders, in byte order of the names of main files, each followed by its drop-ins.
+///
+/// Of one name in several folders the folder given first wins, and an empty file masks its name. All folders are listed
+/// before any file is read.
+pub fn load<F: Folders>(
+    alloc: Global,
+    folders: &mut F,
+    dirs: &[Text],
+) -> Result<List<Piece>, LoadFault>
+    ensures told { F.told folders.new ≡ F.told folders.old }
+    ensures pieces { IfSome (F.told folders.old) (λ tree. Loads (λ found. found) (pieces tree dirs.now) result) }
+    ensures strays { IfSome (F.told folders.old) (λ _. F.strays folders.new ≡ F.strays folders.old) }
+    ensures cause { HasLoadCause (F.faults folders.old) (F.faults folders.new) result }
+{
+    let groups = groups(alloc, folders, dirs)?;
+    if has_too_many(groups.as_slice()) {
+        return Err(LoadFault::TooMany);
+    }
+    let mut found = List::new(alloc);
+    for group in &groups {
+        found = with_group(alloc, folders, found, group)?;
+    }
+    Ok(found)
+}
+
+// Whether more names win than may.
+fn has_too_many(groups: &[Group]) -> bool
+    ensures { result ≡ nat_lt 256 (count_of (map group_of groups.now)) }
+{
+    let mut left = MOST_NAMES;
+    for group in groups {
+        let names = group.parts.len();
+        if names >= left {
+            return true;
+        }
+        left -= names + 1;
+    }
+    false
+}
+
+#[cfg(test)]
+mod tests {
+    use super::*;
+    use rp_io::{MemFolders, Stored};
+    use std::fmt::Write;
+    use std::test::Fail;
+
+    fn folders(
+        rt: &impl AllocGlobal,
+        dirs: &[&str],
+        files: &[(&str, &str)],
+        fail: u64,
+    ) -> Result<MemFolders, Fail> {
+        let mut there = List::new(rt.alloc());
+        for dir in dirs {
+            there.push(Text::from_str(rt.alloc(), dir)?)?;
+        }
+        let mut stored = List::new(rt.alloc());
+        for (path, bytes) in files {
+            stored.push(Stored {
+                path: Text::from_str(rt.alloc(), path)?,
+                bytes: List::from_vec(bytes.as_bytes().to_vec(rt.alloc())?),
+            })?;
+        }
+        let mut failing = List::new(rt.alloc());
+        failing.push(fail)?;
+        Ok(MemFolders::new(there, stored, failing))
+    }
+
+    fn shown(
+        rt: &impl AllocGlobal,
+        folders: &mut MemFolders,
+        dirs: &[&str],
+    ) -> Result<String, Fail> {
+        let mut asked = List::new(rt.alloc());
+        for dir in dirs {
+            asked.push(Text::from_str(rt.alloc(), dir)?)?;
+        }
+        let mut text = String::new(rt.alloc());
+        match load(rt.alloc(), folders, asked.as_slice()) {
+            Err(LoadFault::FolderFault) => text.push_str("FolderFault")?,
+            Err(LoadFault::TooMany) => text.push_str("TooMany")?,
+            Err(LoadFault::TooBig { file, part }) => write!(
+                text,
+                "TooBig {} {}",
+                file.as_str(),
+                part.as_str()
+            )?,
+            Err(LoadFault::Memory) => text.push_str("Memory")?,
+            Ok(pieces) => {
+                for piece in pieces.as_slice() {
+                    write!(
+                        text,
+                        "{} {} {};",
+                        piece.file.as_str(),
+                        piece.part.as_str(),
+                        piece.bytes.len()
+                    )?;
+                }
+            }
+        }
+        Ok(text)
+    }
+
+    #[test]
+    fn two_folders_with_drop_in_and_masking(rt: HostRuntime) -> Result<(), Fail> {
+        let files = [
+            ("/usr/b.conf", "12"),
+            ("/usr/a.conf", "1"),
+            ("/usr/c.conf", "123"),
+            ("/usr/.x.conf", "1"),
+            ("/usr/d.txt", "1"),
+            ("/usr/a.conf.d/20.conf", "12"),
+            ("/usr/c.conf.d/20.conf", "12"),
+            ("/usr/z.conf.d/20.conf", "12"),
+            ("/etc/b.conf", "1234"),
+            ("/etc/c.conf", ""),
+            ("/etc/a.conf.d/10.conf", "1"),
+            ("/etc/a.conf.d/20.conf", ""),
+        ];
+        let there = [
+            "/usr",
+            "/etc",
+            "/usr/a.conf.d",
+            "/etc/a.conf.d",
+            "/usr/c.conf.d",
+            "/usr/z.conf.d",
+        ];
+        let asked = ["/etc", "/none", "/usr"];
+        let mut all = folders(&rt, &there, &files, 0)?;
+        let got = shown(&rt, &mut all, &asked)?;
+        assert_eq!(rt; got.as_str(), "a.conf  1;a.conf 10.conf 1;b.conf  4;");
+        assert_eq!(rt; all.faults(), 0);
+        let mut failing = folders(&rt, &there, &files, 2)?;
+        let got = shown(&rt, &mut failing, &asked)?;
+        assert_eq!(rt; got.as_str(), "FolderFault");
+        assert_eq!(rt; failing.faults(), 1);
+        Ok(())
+    }
+}
