@@ -36,7 +36,8 @@ IsTold (shows table) = Unit {0}
 IsTold (refuses fault) = Unit {0}
 IsTold nothing = ⊥
 
--- a whole copy that this project can't keep refuses the image; every other fault tells nothing
+-- a copy whose first fault is its array's place, its counts or an entry's order can't be kept, and refuses the image; every
+-- other fault tells nothing
 abbrev pub told : Result Table CopyFault → Told
 told (Ok table) = shows table
 told (Err copies.ArrayPlace) = refuses faults.ArrayPlace

@@ -131,7 +131,7 @@ fn is_used(entry: &[u8]) -> bool
     !guid_at(entry, entry::TYPE).is_zero()
 }
 
-/// Whether an entry ends behind its start and within 2^35 sectors.
+/// Whether an entry ends at its start or behind it, and within 2^35 sectors.
 #[tactic(auto, unfolding(crate::specs::Copy::is_ordered))]
 fn is_ordered(entry: &[u8]) -> bool
     requires { length entry.now ≡ 128 }

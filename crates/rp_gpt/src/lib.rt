@@ -17,7 +17,7 @@ pub use copy::{CopyFault, Which};
 pub use decode::decode_copy;
 pub use encode::encode_copy;
 pub use exact::is_exact;
-pub use law::copies_read_back;
+pub use law::{copies_read_back, primary_has_no_size, tables_can_be_written};
 pub use mbr::{foreign_type, mbr_bytes, mbr_state};
 pub use name::name_units;
 pub use table_fault::{Empty, TableFault};
