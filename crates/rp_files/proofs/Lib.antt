@@ -1,4 +1,5 @@
 pub mod FoundLemmas
 pub mod OrderLemmas
 pub mod ReadLemmas
+pub mod Sizes
 pub mod ThereLemmas

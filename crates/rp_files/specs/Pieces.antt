@@ -1,5 +1,5 @@
 -- Which files of the folders are definition pieces, and in which order (repart.d(5), systemd.unit(5) on drop-ins).
-use Rattle.std.specs.Prelude.{ℕ, List, [], ◌∷◌, ◌++◌, Bool, ◌&&◌, not, if◌then◌else◌, ◌==◌, nat_lt, nat_eq, Option, Some, None, Result, Ok, Err, codes, filter, flat_map, length, map, sum_by, ◌+◌}
+use Rattle.std.specs.Prelude.{ℕ, List, [], ◌∷◌, ◌++◌, Bool, ◌&&◌, not, if◌then◌else◌, ◌==◌, nat_lt, nat_eq, Option, Some, None, Result, Ok, Err, codes, filter, flat_map, length, map, sum_by, ◌+◌, ◌≤◌, All}
 use Rattle.std.specs.List.{starts_with, ends_with}
 use Rattle.std.specs.Ordering.{nat_cmp}
 use Rattle.std.specs.Cmp.Lexicographic.{slice_cmp}
@@ -56,6 +56,20 @@ count_of gs = sum_by (λ group. length group.parts + 1) gs
 abbrev pub whole : List ℕ → List ℕ → Option (List ℕ) → Result (List ℕ) LoadFault
 whole file part None = Ok []
 whole file part (Some bytes) = if nat_lt 65536 (length bytes) then Err (TooBig file part) else Ok bytes
+
+-- a piece of at most 65,536 bytes
+abbrev pub IsShort : Piece → Type 0
+IsShort piece = length piece.bytes ≤ 65536
+
+-- what is loaded: at most 256 pieces of at most 65,536 bytes each
+pub record ArePieces (pieces : List Piece) : Type 0 where
+  pub few : length pieces ≤ 256
+  pub short : All IsShort pieces
+
+-- at most so many pieces were added, and none that is too long
+pub record AddsAtMost (count : ℕ) (before after : List Piece) : Type 0 where
+  pub few : length after ≤ length before + count
+  pub short : All IsShort before → All IsShort after
 
 -- the pieces with one more, unless it is empty
 abbrev pub with_piece : List Piece → List ℕ → List ℕ → List ℕ → List Piece

@@ -1,5 +1,5 @@
-ghost use Rattle.std.specs.Prelude.{◌≡◌, nat_lt, map, IfSome};
-ghost use Rattle.rp_files.specs.Pieces.{pieces, count_of};
+ghost use Rattle.std.specs.Prelude.{◌≡◌, nat_lt, map, IfSome, IfOk};
+ghost use Rattle.rp_files.specs.Pieces.{pieces, count_of, ArePieces};
 ghost use Rattle.rp_files.specs.Faults.{HasLoadCause, Loads};
 ghost use Rattle.rp_files.specs.Found.{group_of};
 
@@ -16,7 +16,7 @@ const MOST_NAMES: usize = 256;
 /// The pieces of these folders, in byte order of the names of main files, each followed by its drop-ins.
 ///
 /// Of one name in several folders the folder given first wins, and an empty file masks its name. All folders are listed
-/// before any file is read.
+/// before any file is read. Whether the folders tell or not, there are at most 256 pieces of at most 65,536 bytes each.
 pub fn load<F: Folders>(
     alloc: Global,
     folders: &mut F,
@@ -24,6 +24,7 @@ pub fn load<F: Folders>(
 ) -> Result<List<Piece>, LoadFault>
     ensures told { F.told folders.new ≡ F.told folders.old }
     ensures pieces { IfSome (F.told folders.old) (λ tree. Loads (λ found. found) (pieces tree dirs.now) result) }
+    ensures within { IfOk result ArePieces }
     ensures strays { IfSome (F.told folders.old) (λ _. F.strays folders.new ≡ F.strays folders.old) }
     ensures cause { HasLoadCause (F.faults folders.old) (F.faults folders.new) result }
 {
@@ -150,6 +151,42 @@ mod tests {
         let got = shown(&rt, &mut failing, &asked)?;
         assert_eq!(rt; got.as_str(), "FolderFault");
         assert_eq!(rt; failing.faults(), 1);
+        Ok(())
+    }
+
+    // So many files of so many bytes in /usr, the last of them `last.conf`.
+    fn alike(rt: &impl AllocGlobal, count: usize, bytes: usize) -> Result<MemFolders, Fail> {
+        let mut there = List::new(rt.alloc());
+        there.push(Text::from_str(rt.alloc(), "/usr")?)?;
+        let mut stored = List::new(rt.alloc());
+        for n in 1..count {
+            stored.push(Stored {
+                path: Text::from_string(format!(in rt.alloc(); "/usr/{n}.conf")?),
+                bytes: List::from_vec(vec![in rt.alloc(); 0; bytes]?),
+            })?;
+        }
+        stored.push(Stored {
+            path: Text::from_str(rt.alloc(), "/usr/last.conf")?,
+            bytes: List::from_vec(vec![in rt.alloc(); 0; bytes]?),
+        })?;
+        Ok(MemFolders::new(there, stored, List::new(rt.alloc())))
+    }
+
+    #[test]
+    fn more_than_256_names(rt: HostRuntime) -> Result<(), Fail> {
+        let got = shown(&rt, &mut alike(&rt, 256, 1)?, &["/usr"])?;
+        assert!(rt; got.as_str().ends_with("99.conf  1;last.conf  1;"));
+        let got = shown(&rt, &mut alike(&rt, 257, 1)?, &["/usr"])?;
+        assert_eq!(rt; got.as_str(), "TooMany");
+        Ok(())
+    }
+
+    #[test]
+    fn more_than_65536_bytes(rt: HostRuntime) -> Result<(), Fail> {
+        let got = shown(&rt, &mut alike(&rt, 1, 65_536)?, &["/usr"])?;
+        assert_eq!(rt; got.as_str(), "last.conf  65536;");
+        let got = shown(&rt, &mut alike(&rt, 1, 65_537)?, &["/usr"])?;
+        assert_eq!(rt; got.as_str(), "TooBig last.conf ");
         Ok(())
     }
 }

@@ -1,4 +1,4 @@
-ghost use Rattle.std.specs.Prelude.{◌≡◌, ◌∷◌, IfOk, IfErr, IfSome, IsSome};
+ghost use Rattle.std.specs.Prelude.{◌≡◌, ◌≤◌, ◌+◌, ◌∷◌, IfOk, IfErr, IfSome, IsSome, length};
 ghost use Rattle.rp_io.specs.Files.{content};
 ghost use Rattle.rp_files.specs.Pieces as grammar;
 ghost use Rattle.rp_files.specs.Faults.{HasLoadCause, Loads, IsTooBig};
@@ -23,6 +23,7 @@ fn read_bytes<F: Folders>(
 ) -> Result<List<u8>, LoadFault>
     ensures told { F.told folders.new ≡ F.told folders.old }
     ensures bytes { IfSome (F.told folders.old) (λ tree. Loads (λ bytes. bytes) (grammar.whole file.now part.now (content tree.files path.now)) result) }
+    ensures short { IfOk result (λ bytes. length bytes ≤ 65536) }
     ensures strays { IfSome (F.told folders.old) (λ tree. IsSome (content tree.files path.now) → F.strays folders.new ≡ F.strays folders.old) }
     ensures cause { HasLoadCause (F.faults folders.old) (F.faults folders.new) result }
 {
@@ -77,6 +78,7 @@ fn with_part<F: Folders>(
     ensures told { F.told folders.new ≡ F.told folders.old }
     ensures pieces { IfSome (F.told folders.old) (λ tree. Loads (λ after. after)
         (grammar.with_whole pieces file.now (bytes_of part.now).0 (grammar.whole file.now (bytes_of part.now).0 (content tree.files (bytes_of part.now).1))) result) }
+    ensures adds { IfOk result (grammar.AddsAtMost 1 pieces) }
     ensures strays { IfSome (F.told folders.old) (λ tree. IsSome (content tree.files (bytes_of part.now).1) → F.strays folders.new ≡ F.strays folders.old) }
     ensures cause { HasLoadCause (F.faults folders.old) (F.faults folders.new) result }
 {
@@ -95,6 +97,7 @@ fn with_parts<F: Folders>(
 ) -> Result<List<Piece>, LoadFault>
     ensures told { F.told folders.new ≡ F.told folders.old }
     ensures pieces { IfSome (F.told folders.old) (λ tree. Loads (λ after. after) (grammar.with_parts tree file.now (Ok pieces) (found_of parts.now)) result) }
+    ensures adds { IfOk result (grammar.AddsAtMost (length parts.now) pieces) }
     ensures strays { IfSome (F.told folders.old) (λ tree. AreThere tree (found_of parts.now) → F.strays folders.new ≡ F.strays folders.old) }
     ensures cause { HasLoadCause (F.faults folders.old) (F.faults folders.new) result }
 {
@@ -115,6 +118,7 @@ pub(crate) fn with_group<F: Folders>(
 ) -> Result<List<Piece>, LoadFault>
     ensures told { F.told folders.new ≡ F.told folders.old }
     ensures pieces { IfSome (F.told folders.old) (λ tree. Loads (λ after. after) (grammar.with_group tree pieces (group_of group.now)) result) }
+    ensures adds { IfOk result (grammar.AddsAtMost (length group.now.parts.items + 1) pieces) }
     ensures strays { IfSome (F.told folders.old) (λ tree. AreThere tree ((group_of group.now).main ∷ (group_of group.now).parts) → F.strays folders.new ≡ F.strays folders.old) }
     ensures cause { HasLoadCause (F.faults folders.old) (F.faults folders.new) result }
 {

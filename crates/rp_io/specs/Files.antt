@@ -1,5 +1,5 @@
 -- Files and folders: a finite map from paths to bytes, and the folders that are there.
-use Rattle.std.specs.Prelude.{ℕ, List, [], ◌∷◌, ◌++◌, ◌≡◌, ◌+◌, ◌≤◌, Bool, true, false, ◌&&◌, not, if◌then◌else◌, ◌==◌, nat_le, Option, Some, None, length, drop, find, fold, filter_map, option_map, slice_range}
+use Rattle.std.specs.Prelude.{ℕ, List, [], ◌∷◌, ◌++◌, ◌≡◌, ◌+◌, ◌≤◌, Bool, true, false, ◌&&◌, not, if◌then◌else◌, ◌==◌, nat_le, ⊤, Option, Some, None, length, drop, find, fold, filter_map, option_map, slice_range}
 use Rattle.std.specs.List.{list_any}
 use Rattle.std.specs.Str.{bytes_eq}
 use Rattle.std.specs.List.Sorted.{IsPermutation}
@@ -46,6 +46,11 @@ IsListing tree folder (Some names) = (has_folder tree folder ≡ true) × IsPerm
 -- what a read with a limit gives of these bytes
 abbrev pub limited : ℕ → List ℕ → Content
 limited limit bytes = if nat_le (length bytes) limit then Whole bytes else More
+
+-- all the bytes of a file are at most this many
+abbrev pub IsWithin : ℕ → Content → Type 0
+IsWithin limit (Whole bytes) = length bytes ≤ limit
+IsWithin limit More = ⊤
 
 -- the file is there, and a range with this end doesn't pass its end
 abbrev pub Reaches : Option (List ℕ) → ℕ → Type 0

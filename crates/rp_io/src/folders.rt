@@ -1,6 +1,6 @@
 ghost use Rattle.std.specs.Prelude.{◌≡◌, ℕ, Option, Some, IfSome, IfOk, IsSome, option_map};
 ghost use Rattle.rp_io.specs.Faults.{HasIoCause, CountsStray};
-ghost use Rattle.rp_io.specs.Files.{Tree, IsListing, content, limited};
+ghost use Rattle.rp_io.specs.Files.{Tree, IsListing, IsWithin, content, limited};
 
 use crate::IoFault;
 use rp_base::{List, Text};
@@ -37,10 +37,12 @@ pub trait Folders {
         ensures strays { IfSome (told self.old) (λ _. strays self.new ≡ strays self.old) }
         ensures cause { HasIoCause (faults self.old) (faults self.new) result };
 
-    /// The bytes of a file, or `More` where they are more than `limit`. A path that isn't there is a fault.
+    /// The bytes of a file, or `More` where they are more than `limit`: no `Whole` holds more, whether the folders tell
+    /// or not. A path that isn't there is a fault.
     fn read(&mut self, alloc: Global, path: &str, limit: u64) -> Result<Content, IoFault>
         ensures told { told self.new ≡ told self.old }
         ensures bytes { IfSome (told self.old) (λ tree. IfOk result (λ held. option_map (limited limit) (content tree.files path.now) ≡ Some held)) }
+        ensures within { IfOk result (IsWithin limit) }
         ensures strays { IfSome (told self.old) (λ tree. CountsStray (IsSome (content tree.files path.now)) (strays self.old) (strays self.new)) }
         ensures cause { HasIoCause (faults self.old) (faults self.new) result };
 }

@@ -1,5 +1,6 @@
-ghost use Rattle.std.specs.Prelude.{◌≡◌, None};
+ghost use Rattle.std.specs.Prelude.{◌≡◌, None, IfOk};
 ghost use Rattle.rp_io.specs.Faults.{HasIoCause};
+ghost use Rattle.rp_io.specs.Files.{IsWithin};
 
 use crate::{Content, Folders, IoFault};
 use rp_base::{List, Memory, Text};
@@ -141,7 +142,9 @@ fn joined(alloc: Global, front: &str, back: &str) -> Result<String, Memory> {
 }
 
 // Reads no more than one byte past the limit.
-fn read_file<R: Files>(rt: &R, alloc: Global, path: &str, limit: u64) -> Result<Content, IoFault> {
+fn read_file<R: Files>(rt: &R, alloc: Global, path: &str, limit: u64) -> Result<Content, IoFault>
+    ensures { IfOk result (IsWithin limit) }
+{
     let file = File::open(rt, path).map_err(fault_of)?;
     let mut bytes = Vec::new(alloc);
     file.take(limit.saturating_add(1))

@@ -1,6 +1,6 @@
 ghost use Rattle.std.specs.Prelude.{◌≡◌, ⊤, Some, IfOk, IsSome, option_map};
 ghost use Rattle.rp_io.specs.Faults.{HasIoCause, CountsStray};
-ghost use Rattle.rp_io.specs.Files.{Tree, IsListing, content, limited};
+ghost use Rattle.rp_io.specs.Files.{Tree, IsListing, IsWithin, content, limited};
 
 use crate::calls::is_listed;
 use crate::stored::{bytes_at, has_text, names_in_folder};
@@ -76,6 +76,7 @@ impl Folders for MemFolders {
     fn read(&mut self, alloc: Global, path: &str, limit: u64) -> Result<Content, IoFault>
         ensures told { tree self.new ≡ tree self.old }
         ensures bytes { IfOk result (λ held. option_map (limited limit) (content (tree self.old).files path.now) ≡ Some held) }
+        ensures within { IfOk result (IsWithin limit) }
         ensures strays { CountsStray (IsSome (content (tree self.old).files path.now)) (stray_calls self.old) (stray_calls self.new) }
         ensures cause { HasIoCause (failures self.old) (failures self.new) result }
         ensures exact { FailsExactly self.old self.new (IsSome (content (tree self.old).files path.now)) result }

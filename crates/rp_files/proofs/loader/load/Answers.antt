@@ -6,6 +6,7 @@ use Rattle.rp_files.specs.Pieces.{groups}
 use Rattle.rp_files.specs.Found.{group_of}
 use Rattle.rp_files.proofs.ReadLemmas.{groups_more, strays_known, strays_chain}
 use Rattle.rp_files.proofs.ThereLemmas.{group_there}
+use Rattle.rp_files.proofs.Sizes.{adds_group}
 use Rattle.rp_files.proofs.loader.load.Goals as goal
 
 pub returns-in_err-found-clause-strays : goal.returns-in_err-found-clause-strays
@@ -26,5 +27,7 @@ loop-group-preserved g c = record {
       c.loop-group.invariant.strays c.with_group.ensures.strays
       (λ tree same. group_there tree c.args.dirs.now c.deref-group-items.result.now c.loop-group.group-index c.group-item.result
       (ap (λ gs. map group_of gs) c.deref-group-items.ensures.value ∙ same) c.loop-group-test.true c.group-item.is);
+  adds = adds_group c.deref-group-items.result.now c.loop-group.group-index c.group-item.result c.new-found.result c.loop-group.found c.in_ok-found.found
+      c.loop-group-test.true c.group-item.is c.loop-group.invariant.adds c.in_ok-found.ensures.adds;
   faults = c.in_ok-found.ensures.cause ∙ c.loop-group.invariant.faults;
 }

@@ -10,5 +10,6 @@ invariant-loop-part g l = record {
   told : g.F.Folders.told l.folders ≡ g.F.Folders.told l.initial.folders;
   pieces : IfSome (g.F.Folders.told l.initial.folders) (λ tree. grammar.with_parts tree l.file (Ok l.initial.pieces) (found_of l.parts) ≡ grammar.with_parts tree l.file (Ok l.pieces) (found_of (drop l.part-index l.parts)));
   strays : IfSome (g.F.Folders.told l.initial.folders) (λ tree. AreThere tree (found_of l.parts) → g.F.Folders.strays l.folders ≡ g.F.Folders.strays l.initial.folders);
+  adds : grammar.AddsAtMost l.part-index l.initial.pieces l.pieces;
   faults : g.F.Folders.faults l.folders ≡ g.F.Folders.faults l.initial.folders;
 }
