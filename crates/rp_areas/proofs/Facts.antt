@@ -10,7 +10,7 @@ use Rattle.rp_areas.specs.declared.gaps.Area.{Area}
 use Rattle.rp_areas.specs.Areas.{anchor_of, area_before, area_behind, areas_behind, grains_up, limit_of, used_of, want_at}
 use Rattle.rp_areas.proofs.Chain.{IsBefore, IsChained}
 
--- an anchor's row is its definition's, begins at a grain and ends before the limit
+-- an anchor's row is its definition's, begins at a grain and ends at the limit at most
 abbrev pub Fits : ℕ → Extent → ℕ → Type 0
 Fits limit e file = (e.file ≡ Some file) × (e.start % 8 ≡ 0) × (e.start / 8 + grains_up e.size ≤ limit)
 

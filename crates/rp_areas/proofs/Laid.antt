@@ -10,7 +10,8 @@ use Rattle.rp_base.specs.declared.want.Want.{Want}
 use Rattle.rp_areas.specs.declared.behind.Refusal.{Refusal}
 use Rattle.rp_areas.specs.declared.extents.Extent.{Extent}
 use Rattle.rp_areas.specs.declared.gaps.Area.{Area}
-use Rattle.rp_areas.specs.Areas.{IsLaidOut, area_before, areas_behind, by_start, extent_of, extents_of, file_of, insert_extent, least_refusal, refusals_of}
+use Rattle.rp_base.specs.Table.{IsLaidOut}
+use Rattle.rp_areas.specs.Areas.{area_before, areas_behind, by_start, extent_of, extents_of, file_of, insert_extent, least_refusal, refusals_of}
 use Rattle.rp_areas.specs.Facts.{IsAnchored, IsClear, IsWithin}
 use Rattle.rp_areas.proofs.Chain.{IsApart, IsChained, IsChained-by_start, IsSized}
 use Rattle.rp_areas.proofs.Clear.{Comes, Misses, areas_anchored, areas_clear, areas_used, areas_within}

@@ -6,7 +6,8 @@ use Rattle.rp_base.specs.declared.table.Row.{Row}
 use Rattle.rp_base.specs.declared.table.Table.{Table}
 use Rattle.rp_base.specs.declared.want.Want.{Want}
 use Rattle.rp_areas.specs.declared.extents.Extent.{Extent}
-use Rattle.rp_areas.specs.Areas.{IsLaidOut, by_start, extent_of, extents_of, file_of}
+use Rattle.rp_base.specs.Table.{IsLaidOut}
+use Rattle.rp_areas.specs.Areas.{by_start, extent_of, extents_of, file_of}
 use Rattle.rp_areas.specs.Extents.{IsBounded}
 use Rattle.rp_areas.proofs.Order.{All-by_start}
 use Rattle.rp_areas.proofs.Places.{get_or-map-enumerate, length-map-enumerate}

@@ -1,5 +1,5 @@
 -- The areas between the rows of a table, in grains of 8 sectors (systemd-repart(8): new partitions go to free areas, and existing ones grow into the area behind them).
-use Rattle.std.specs.Prelude.{ℕ, ◌+◌, ◌-◌, ◌*◌, ◌/◌, ◌%◌, ◌≤◌, ◌⊎◌, ◌==◌, nat_lt, nat_le, if◌then◌else◌, max, false, ◌&&◌, Option, Some, None, Result, Ok, Err, List, [], ◌∷◌, map, fold, position, slice_get, unwrap_or, All, AllPairs}
+use Rattle.std.specs.Prelude.{ℕ, ◌+◌, ◌-◌, ◌*◌, ◌/◌, ◌%◌, ◌==◌, nat_lt, nat_le, if◌then◌else◌, max, false, ◌&&◌, Option, Some, None, Result, Ok, Err, List, [], ◌∷◌, map, fold, position, slice_get, unwrap_or}
 use Rattle.std.specs.List.{enumerate_from, cons_option}
 use Rattle.std.specs.Option.{option_map_or, option_and_then, is_some}
 use Rattle.rp_base.specs.declared.table.Row.{Row}
@@ -10,12 +10,6 @@ use Rattle.rp_areas.specs.declared.gaps.AreaFault.{AreaFault}
 use Rattle.rp_areas.specs.declared.gaps.AreaFault.TheVariants.{Existing}
 use Rattle.rp_areas.specs.declared.extents.Extent.{Extent}
 use Rattle.rp_areas.specs.declared.behind.Refusal.{Refusal}
-
--- the table's rows have sectors, lie in its bounds and share none (UEFI 2.10, 5.3.2)
-pub record IsLaidOut (table : Table) : Type 0 where
-  pub sized : All (λ (row : Row). 1 ≤ row.size) table.rows
-  pub in_bounds : All (λ (row : Row). (table.first ≤ row.start) × (row.start + row.size ≤ table.last + 1)) table.rows
-  pub apart : AllPairs (λ (a b : Row). (a.start + a.size ≤ b.start) ⊎ (b.start + b.size ≤ a.start)) table.rows
 
 -- sectors in grains, rounded up
 abbrev pub grains_up : ℕ → ℕ
@@ -51,7 +45,7 @@ limit_of last (e ∷ es) = e.start / 8
 abbrev pub want_at : List Want → ℕ → Want
 want_at wants file = unwrap_or (slice_get wants file) (record { min = 0; max = 0; weight = 0; pad_min = 0; pad_max = 0; pad_weight = 0 })
 
--- the definition whose row can grow in its place: the row begins at a grain, and its size in whole grains ends before the limit
+-- the definition whose row can grow in its place: the row begins at a grain, and its whole grains end at the limit at most
 abbrev pub anchor_of : ℕ → Extent → Option ℕ
 anchor_of limit e = if (e.start % 8 == 0) && nat_le (e.start / 8 + grains_up e.size) limit then e.file else None
 

@@ -1,7 +1,8 @@
 ghost use Rattle.std.specs.Prelude.{◌≡◌, ◌+◌, ◌≤◌, ◌<◌, ◌^◌, ◌∷◌, length, IfSome, IfOk, All, AllPairs};
 ghost use Rattle.rp_base.specs.Answers.{Gives};
+ghost use Rattle.rp_base.specs.Table.{IsLaidOut};
 ghost use Rattle.rp_base.specs.Wants.{AreWants};
-ghost use Rattle.rp_areas.specs.Areas.{IsLaidOut, areas_of, area_before, areas_behind, lesser as lesser_of, least_refusal as least_of, refusals_of};
+ghost use Rattle.rp_areas.specs.Areas.{areas_of, area_before, areas_behind, lesser as lesser_of, least_refusal as least_of, refusals_of};
 ghost use Rattle.rp_areas.specs.Extents.{IsBounded};
 ghost use Rattle.rp_areas.specs.Facts.{IsAnchored, IsClear, IsWithin};
 
@@ -27,7 +28,8 @@ pub struct Area {
 /// Why there are no areas.
 #[derive(Clone, Copy, Debug, PartialEq, Eq, Error)]
 pub enum AreaFault {
-    /// The row of a definition is below its minimum and can't grow enough; numbers in bytes.
+    /// The row of a definition can't stay. One that may grow needs its size or minimum, the greater, with the minimum
+    /// padding behind it, and has its area; one that can't grow needs the minimum, and has its size. Numbers in bytes.
     #[error("Existing {file} {need} {have}")]
     Existing { file: u16, need: u64, have: u64 },
     #[error("Memory")]
@@ -47,8 +49,9 @@ impl From<Memory> for AreaFault {
 
 /// The area before the first row and one behind each row, by rising start of the rows. `matched` holds the place of the
 /// row of each definition, as `assign` gives it, and `wants` what each asks for. An area ends at the next row, the last
-/// one behind the sector `last`. A row of a definition that begins at a grain, and whose whole grains end before the
-/// next row, is the anchor of the area behind it, which then begins with the row (systemd-repart(8)).
+/// one behind the sector `last`, both rounded down to a grain. A row of a definition that begins at a grain, and whose
+/// whole grains end there at most, is the anchor of the area behind it, which then begins with the row
+/// (systemd-repart(8)).
 pub fn areas(
     alloc: Global,
     table: &Table,

@@ -1,7 +1,7 @@
 ghost use Rattle.std.specs.Prelude.{◌≡◌, ◌≤◌, ◌<◌, ◌+◌, ◌^◌, ◌⊎◌, All, AllPairs, IsTrue, IfOk, IfSome, length};
 ghost use Rattle.rp_base.specs.declared.table.Row.{Row};
+ghost use Rattle.rp_base.specs.Table.{IsLaidOut};
 ghost use Rattle.rp_base.specs.Wants.{AreWants, IsWant};
-ghost use Rattle.rp_areas.specs.Areas.{IsLaidOut};
 
 use crate::{Area, AreaFault, areas, assign};
 use rp_base::{Guid, List, Row, Table, Want};

@@ -119,6 +119,6 @@ beyond_few [] free is = omega arith
 beyond_few (n ∷ ns) zero is = absurd (let e : Some n ≡ None = is in cc)
 beyond_few (n ∷ ns) (suc free) is = omega (arith, beyond_few ns free is)
 
-pub few : (beyond : List New) (free : ℕ) (answer : Answer) (places : List (Option ℕ)) → slotted beyond free answer ≡ Ok places → length beyond ≤ free
-few beyond free (Ok others) places is = beyond_few beyond free (few_at (slice_get beyond free) places others is)
-few beyond free (Err fault) places is = absurd (let e : ◌≡◌ {A = Answer} (Err fault) (Ok places) = is in cc)
+pub few : (those_kept : List New) (free : ℕ) (answer : Answer) (places : List (Option ℕ)) → slotted those_kept free answer ≡ Ok places → length those_kept ≤ free
+few those_kept free (Ok others) places is = beyond_few those_kept free (few_at (slice_get those_kept free) places others is)
+few those_kept free (Err fault) places is = absurd (let e : ◌≡◌ {A = Answer} (Err fault) (Ok places) = is in cc)

@@ -60,9 +60,9 @@ no_slot : (o : Option New) (others places : List (Option ℕ)) → option_map_or
 no_slot None others places is = is
 no_slot (Some n) others places is = absurd (let e : ◌≡◌ {A = Result (List (Option ℕ)) PlaceFault} (Err (Slot n.file)) (Ok places) = is in cc)
 
-pub slotted_ok : (beyond : List New) (free : ℕ) (answer : Result (List (Option ℕ)) PlaceFault) (places : List (Option ℕ)) → slotted beyond free answer ≡ Ok places → answer ≡ Ok places
-slotted_ok beyond free (Err fault) places is = is
-slotted_ok beyond free (Ok others) places is = no_slot (slice_get beyond free) others places is
+pub slotted_ok : (those_kept : List New) (free : ℕ) (answer : Result (List (Option ℕ)) PlaceFault) (places : List (Option ℕ)) → slotted those_kept free answer ≡ Ok places → answer ≡ Ok places
+slotted_ok those_kept free (Err fault) places is = is
+slotted_ok those_kept free (Ok others) places is = no_slot (slice_get those_kept free) others places is
 
 -- a priority lies at most at h or above t
 abbrev pub Side : ℤ → ℤ → New → Type 0

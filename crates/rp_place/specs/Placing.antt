@@ -49,8 +49,8 @@ kept news threshold = filter (λ n. int_le n.priority threshold) news
 
 -- the areas, where there is a slot for each that is kept, or else the first for which there is none
 abbrev pub slotted : List New → ℕ → Result (List (Option ℕ)) PlaceFault → Result (List (Option ℕ)) PlaceFault
-slotted beyond free (Err fault) = Err fault
-slotted beyond free (Ok places) = option_map_or (λ n. Err (Slot n.file)) (slice_get beyond free) (Ok places)
+slotted those_kept free (Err fault) = Err fault
+slotted those_kept free (Ok places) = option_map_or (λ n. Err (Slot n.file)) (slice_get those_kept free) (Ok places)
 
 -- what a threshold leads to
 abbrev pub tried : List Area → List New → ℕ → ℤ → Result (List (Option ℕ)) PlaceFault
