@@ -54,7 +54,8 @@ pub trait Disk {
         ensures strays { IfSome (told self.old) (λ h. strays self.new ≡ strays self.old) }
         ensures cause { HasCause (faults self.old) (faults self.new) result };
 
-    /// Cuts the bytes, or fills them up with zeros, to a length.
+    /// Cuts the bytes, or fills them up with zeros, to a length. One that fails leaves the length as it was or this one,
+    /// with the bytes below both as they were and any bytes in a new part.
     fn set_len(&mut self, len: u64) -> Result<(), Failed>
         ensures done { IfSome (told self.old) (λ h. OnOk result (told self.new ≡ Some (did h (Call.SetLen len)))) }
         ensures failed { IfSome (told self.old) (λ h. OnErr result (FailedAt h (Call.SetLen len) (told self.new))) }

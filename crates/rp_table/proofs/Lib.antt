@@ -1,3 +1,6 @@
 mod FromPlace
+mod InPlace
 mod Judging
 mod Reading
+mod Shared
+mod Slots

@@ -3,7 +3,7 @@
 ghost use Rattle.std.specs.Prelude.{◌≡◌, ◌≢◌, ◌⊎◌, ◌≤◌, ◌*◌, ◌^◌, IfSome, IfOk, Err, length};
 ghost use Rattle.rp_base.specs.Answers.{Gives};
 ghost use Rattle.rp_base.specs.Faults.{Rose, HasCause};
-ghost use Rattle.rp_base.specs.Table.{IsWritable};
+ghost use Rattle.rp_base.specs.Table.{IsWritable, IsInPlace};
 ghost use Rattle.rp_disk.specs.History.{shown};
 ghost use Rattle.rp_gpt.specs.Shown.{accepted};
 ghost use Rattle.rp_table.specs.Pieces.{ArePieces};
@@ -33,6 +33,7 @@ pub fn read<D: Disk>(alloc: Global, disk: &mut D, empty: Empty) -> Result<Seen, 
     ensures fault { result ≡ Err TableFault.Disk → Rose (D.faults disk.old) (D.faults disk.new) }
     ensures kept { (result ≡ Err TableFault.Disk) ⊎ (D.faults disk.new ≡ D.faults disk.old) }
     ensures writable { IfOk result (λ seen. IsWritable seen.shown) }
+    ensures in_place { IfOk result (λ seen. IsInPlace seen.sectors seen.shown) }
     ensures origin { empty ≡ Empty.Refuse → IfOk result (λ seen. seen.origin ≢ Origin.Neither) }
 {
     let Ok(len) = disk.len() else {

@@ -2,7 +2,7 @@
 
 ghost use Rattle.std.specs.Prelude.{◌≡◌, ◌≢◌, ◌≤◌, ◌^◌, ℕ, List, IfOk, IfSome, IsErr, Err, length};
 ghost use Rattle.rp_base.specs.Answers.{Gives};
-ghost use Rattle.rp_base.specs.Table.{IsWritable};
+ghost use Rattle.rp_base.specs.Table.{IsWritable, IsInPlace};
 ghost use Rattle.rp_gpt.specs.Copy.{answer};
 ghost use Rattle.rp_gpt.specs.Shown.{told, told_at, accepted_as, accepted_table, accepted_blank, blank};
 ghost use Rattle.rp_table.specs.Pieces.{ArePieces, table_told, checked};
@@ -30,6 +30,7 @@ pub fn judged(alloc: Global, pieces: &Pieces, empty: Empty) -> Result<Seen, Tabl
     ensures answer { (image : List ℕ) → ArePieces image pieces.now → Gives TableFault.Memory (accepted_as image empty (told_at image Which.Primary) (told_at image Which.Backup)) result }
     ensures no_call { result ≢ Err TableFault.Disk }
     ensures writable { IfOk result (λ seen. IsWritable seen.shown) }
+    ensures in_place { IfOk result (λ seen. IsInPlace seen.sectors seen.shown) }
     ensures origin { empty ≡ Empty.Refuse → IfOk result (λ seen. seen.origin ≢ Origin.Neither) }
 {
     let sectors = pieces.sectors;
@@ -77,6 +78,7 @@ fn with_table(
     ensures answer { (image : List ℕ) → ArePieces image pieces.now → result ≡ accepted_table image empty origin table }
     ensures no_call { result ≢ Err TableFault.Disk }
     ensures seen { IfOk result (λ seen. (seen.shown ≡ table) × (seen.origin ≡ origin)) }
+    ensures in_place { IfOk result (λ seen. IsInPlace seen.sectors seen.shown) }
 {
     if let Empty::Require = empty {
         return Err(TableFault::NotEmpty);
@@ -99,6 +101,7 @@ fn check_table(sectors: u64, table: &Table) -> Result<(), TableFault>
     requires most { sectors ≤ 2 ^ 35 }
     ensures answer { result ≡ checked sectors table.now }
     ensures no_call { result ≢ Err TableFault.Disk }
+    ensures in_place { IfOk result (λ _. IsInPlace sectors table.now) }
 {
     let (first, last) = (table.first, table.last);
     if first < FIRST_USABLE || last < first {
@@ -123,6 +126,7 @@ fn without_table(alloc: Global, pieces: &Pieces, empty: Empty) -> Result<Seen, T
     ensures answer { (image : List ℕ) → ArePieces image pieces.now → result ≡ accepted_blank image empty }
     ensures no_call { result ≢ Err TableFault.Disk }
     ensures writable { IfOk result (λ seen. IsWritable seen.shown) }
+    ensures in_place { IfOk result (λ seen. IsInPlace seen.sectors seen.shown) }
     ensures refused { empty ≡ Empty.Refuse → IsErr result }
 {
     if let Some(kind) = foreign_type(&pieces.first) {

@@ -1,10 +1,16 @@
 //! The rows of a table that is shown: each within the usable sectors, and no two on one sector.
 
-ghost use Rattle.std.specs.Prelude.{◌≡◌, ◌+◌, ◌^◌, ◌<◌, ◌&&◌, nat_le, All, find, option_map};
+ghost use Rattle.std.specs.Prelude.{◌≡◌, ◌↔◌, ◌+◌, ◌^◌, ◌<◌, ◌≤◌, ◌&&◌, nat_le, All, IsTrue, IsSome, find, map, option_map, length};
+ghost use Rattle.std.specs.List.Sorted.{IsPermutation, IsNonDecreasingBy};
 ghost use Rattle.rp_base.specs.Table.{IsWritableRow};
 ghost use Rattle.rp_gpt.specs.Shown.{row_outside, share_sector, overlap};
+ghost use Rattle.rp_table.specs.Spans.{IsChained, span_of};
 
-use rp_base::{Row, Table};
+use arrayvec::ArrayVec;
+use rp_base::{Row, SLOTS, Table};
+
+/// The most rows of a table.
+const MOST_ROWS: usize = SLOTS as usize;
 
 /// The slot of the first row that isn't within the usable sectors.
 pub fn outside_slot(table: &Table) -> Option<u16>
@@ -29,9 +35,60 @@ fn is_within(row: &Row, first: u64, last: u64) -> bool
     first <= row.start && row.start + row.size <= last + 1
 }
 
-/// The slots of the first row that shares a sector with a later one, and of the first such row. 128 rows have 8,128
-/// pairs, so each is looked at.
+/// The slots of the first row that shares a sector with a later one, and of the first such row. Each pair is looked at
+/// only where there is one.
 pub fn overlapping_slots(rows: &[Row]) -> Option<(u16, u16)>
+    requires few { length rows.now ≤ 128 }
+    requires rows { All IsWritableRow rows.now }
+    ensures { result ≡ option_map (λ pair. (pair.0.slot, pair.1.slot)) (overlap rows.now) }
+{
+    if any_share(rows) {
+        least_pair(rows)
+    } else {
+        None
+    }
+}
+
+/// Whether two rows share a sector: by rising first sector, one then begins in the one before it.
+fn any_share(rows: &[Row]) -> bool
+    requires few { length rows.now ≤ 128 }
+    requires rows { All IsWritableRow rows.now }
+    ensures { IsTrue result ↔ IsSome (overlap rows.now) }
+{
+    !are_chained(spans(rows).as_slice())
+}
+
+/// The first sector of each row and the one behind its last, by rising first sector.
+fn spans(rows: &[Row]) -> ArrayVec<(u64, u64), MOST_ROWS>
+    requires few { length rows.now ≤ 128 }
+    requires rows { All IsWritableRow rows.now }
+    ensures same { IsPermutation (map span_of rows.now) result.items }
+    ensures rising { IsNonDecreasingBy (λ span. span.0) result.items }
+{
+    let mut spans = ArrayVec::new();
+    for row in rows {
+        spans.push((row.start, row.start + row.size));
+    }
+    spans.sort_unstable_by_key(|span: &(u64, u64)| span.0);
+    spans
+}
+
+/// Whether each span begins behind the last sector of the one before it.
+fn are_chained(spans: &[(u64, u64)]) -> bool
+    ensures { IsTrue result ↔ IsChained 0 spans.now }
+{
+    let mut reached = 0;
+    for (start, end) in spans {
+        if *start < reached {
+            return false;
+        }
+        reached = *end;
+    }
+    true
+}
+
+/// The slots of the first row that shares a sector with a later one, and of the first such row, by each pair.
+fn least_pair(rows: &[Row]) -> Option<(u16, u16)>
     requires { All IsWritableRow rows.now }
     ensures { result ≡ option_map (λ pair. (pair.0.slot, pair.1.slot)) (overlap rows.now) }
 {

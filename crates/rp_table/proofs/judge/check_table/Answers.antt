@@ -1,7 +1,9 @@
-use Rattle.std.proofs.Common.{ℕ, List, Option, option_map, ◌∙◌, sym, ap, inl, inr, arith}
+use Rattle.std.proofs.Common.{ℕ, List, length, Option, option_map, ◌∙◌, sym, ap, inl, inr, arith}
 use Rattle.rp_base.specs.declared.table.Row.{Row}
 use Rattle.rp_gpt.specs.Shown.{overlap}
 use Rattle.rp_table.proofs.Judging.{checked-bounds, checked-short, checked-rows, unless_slot, unless_no_slot, unless_slots, unless_no_slots}
+use Rattle.rp_table.proofs.InPlace.{checked-in_place}
+use Rattle.rp_table.proofs.Slots.{few_rows}
 use Rattle.rp_table.proofs.judge.check_table.Goals as goal
 use Rattle.rp_table.proofs.judge.check_table.Goals.{then-first-lt-FIRST_USABLE-via-then-first-lt-FIRST_USABLE, then-first-lt-FIRST_USABLE-via-else-first-lt-FIRST_USABLE+then-last-first}
 
@@ -32,3 +34,10 @@ pub returns-clause-answer : goal.returns-clause-answer
 returns-clause-answer c =
     sym (checked-rows c.args.sectors c.args.table.now (omega arith) (omega arith) (omega arith)
     ∙ (unless_no_slot _ _ c.in_default.ensures ∙ unless_no_slots _ _ (c.in_default-overlapping_slots.ensures ∙ ap slots c.as_slice.ensures)))
+
+pub returns-clause-in_place : goal.returns-clause-in_place
+returns-clause-in_place c = checked-in_place c.args.sectors c.args.table.now c.requires.least c.requires.table (returns-clause-answer c)
+
+pub overlapping_slots-requires-clause-few : goal.overlapping_slots-requires-clause-few
+overlapping_slots-requires-clause-few c =
+    omega (arith, few_rows c.args.table.now.rows c.requires.table.rows c.requires.table.rising, ap length c.as_slice.ensures)

@@ -15,6 +15,7 @@ returns-in_err-check_table c =
       answer = λ image are. accepted-fault image c.args.pieces.now are c.args.empty c.args.origin c.args.table c.in_err-check_table.field-0.0 c.in_default.not-Require c.in_err-check_table.ensures.answer;
       no_call = λ e. c.in_err-check_table.ensures.no_call (cc);
       seen = tt;
+      in_place = tt;
     }
 
 pub returns : goal.returns
@@ -24,4 +25,5 @@ returns c = record {
       ∙ accepted-seen image c.args.pieces.now are c.args.empty c.args.origin c.args.table c.in_default.not-Require c.in_ok-check_table.ensures.answer);
   no_call = λ e. cc;
   seen = (refl, refl);
+  in_place = c.in_ok-check_table.ensures.in_place;
 }

@@ -1,7 +1,7 @@
 use Rattle.std.proofs.Common.{ℕ, ◌+◌, ◌∙◌, sym, ap, option_map, arith}
 use Rattle.std.proofs.lemmas.List.{take_rest}
 use Rattle.rp_table.proofs.FromPlace.{overlap_past, overlap_here, overlap_end}
-use Rattle.rp_table.proofs.rows.overlapping_slots.Goals as goal
+use Rattle.rp_table.proofs.rows.least_pair.Goals as goal
 
 pub returns-in-Some : goal.returns-in-Some
 returns-in-Some c =
