@@ -1,0 +1,4 @@
+pub mod NumberLemmas
+pub mod ExpandLemmas
+pub mod LabelLemmas
+pub mod PathLemmas
