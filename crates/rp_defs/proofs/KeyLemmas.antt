@@ -1,0 +1,57 @@
+-- The names of the keys, and their places.
+use Rattle.std.proofs.Common.{◌≡◌, ℕ, zero, suc, ◌+◌, ◌<◌, List, [], ◌∷◌, Bool, true, false, cond, Some, None, length, map, get_or, position, refl, ap, sym, ◌∙◌, arith}
+use Prim.Native.Nat.compare
+use Rattle.std.specs.Prelude.{nat_lt, not, ◌||◌, is_some}
+use Rattle.std.specs.Borrow.{Bor}
+use Rattle.std.specs.List.{list_any, position_or_len}
+use Rattle.std.specs.Str.{bytes_eq}
+use Rattle.std.proofs.lemmas.Bool.{lt-ltb}
+use Rattle.std.proofs.lemmas.List.{length-map}
+use Rattle.rp_ini.proofs.FileLemmas.{position_or_len-map}
+use Rattle.rp_defs.specs.Keys.{key_names, key_name, is_key}
+
+-- a text as it was lent
+abbrev Lent : Type 0
+Lent = Bor (List ℕ)
+
+position-map : {A B : Type 0} (f : A → B) (p : B → Bool) (xs : List A) → position p (map f xs) ≡ position (λ x. p (f x)) xs
+position-map f p xs =
+    ap (λ n. cond (nat_lt n (length (map f xs))) (Some n) None) (position_or_len-map f p xs)
+    ∙ ap (λ n. cond (nat_lt (position_or_len (λ x. p (f x)) xs) n) (Some (position_or_len (λ x. p (f x)) xs)) None) (length-map xs f)
+
+pub place_of-lent : (name : List ℕ) (lent : List Lent) → map (λ (n : Lent). n.now) lent ≡ key_names
+    → position (λ (each : Lent). bytes_eq name each.now) lent ≡ position (bytes_eq name) key_names
+place_of-lent name lent is = sym (position-map (λ (n : Lent). n.now) (bytes_eq name) lent) ∙ ap (position (bytes_eq name)) is
+
+get_or-map : {A B : Type 0} (f : A → B) (xs : List A) (place : ℕ) (d : A) (e : B) → place < length xs → f (get_or xs place d) ≡ get_or (map f xs) place e
+get_or-map f [] place d e lt = absurd (omega arith)
+get_or-map f (x ∷ xs) zero d e lt = refl
+get_or-map f (x ∷ xs) (suc place) d e lt = get_or-map f xs place d e (omega arith)
+
+pub key_name-lent : (key : ℕ) (lent : List Lent) (none : Lent) → map (λ (n : Lent). n.now) lent ≡ key_names → key < 25 → (get_or lent key none).now ≡ key_name key
+unfolding key_name
+key_name-lent key lent none is lt =
+    let many = length-map lent (λ (n : Lent). n.now) in let all = ap length is in
+    get_or-map (λ (n : Lent). n.now) lent key none [] (omega (arith, many, all, lt)) ∙ ap (λ ns. get_or ns key []) is
+
+next_is_some : (b rest : Bool) (n size : ℕ) → nat_lt n size ≡ rest → nat_lt (cond (not b) (1 + n) 0) (suc size) ≡ (b || rest)
+next_is_some true rest n size is = lt-ltb zero (suc size) (omega arith)
+next_is_some false rest n size is = let e : 1 + n ≡ suc n = omega arith in rw (e, compare.suc-suc) is
+
+-- a place is found where an element passes
+is_found : {A : Type 0} (p : A → Bool) (xs : List A) → nat_lt (position_or_len p xs) (length xs) ≡ list_any p xs
+is_found p [] = refl
+is_found p (x ∷ xs) = next_is_some (p x) (list_any p xs) (position_or_len p xs) (length xs) (is_found p xs)
+
+some_where : (b : Bool) (n : ℕ) → is_some (cond b (Some n) None) ≡ b
+some_where true n = refl
+some_where false n = refl
+
+pub is_key-place : (name : List ℕ) → is_some (position (bytes_eq name) key_names) ≡ is_key name
+unfolding is_key
+is_key-place name = some_where (nat_lt (position_or_len (bytes_eq name) key_names) (length key_names)) (position_or_len (bytes_eq name) key_names) ∙ is_found (bytes_eq name) key_names
+
+-- a name that has no place is no key's
+pub absent : (name : List ℕ) → None ≡ position (bytes_eq name) key_names → list_any (bytes_eq name) key_names ≡ false
+unfolding is_key
+absent name none = sym (is_key-place name) ∙ ap is_some (sym none)

@@ -1,0 +1,13 @@
+pub mod BoundLemmas
+pub mod CountingLemmas
+pub mod IgnoredLemmas
+pub mod KeyLemmas
+pub mod ParsedLemmas
+pub mod SectionLemmas
+pub mod SlotLemmas
+pub mod Counted
+pub mod DraftLemmas
+pub mod GroupLemmas
+pub mod PairLemmas
+pub mod Partners
+pub mod WantLemmas

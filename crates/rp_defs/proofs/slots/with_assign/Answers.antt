@@ -1,0 +1,19 @@
+use Rattle.std.proofs.Common.{ap, sym, ◌∙◌, position}
+use Rattle.std.specs.Prelude.{Option, slice_set}
+use Rattle.std.specs.Str.{bytes_eq}
+use Rattle.rp_defs.specs.Keys.{key_names}
+use Rattle.rp_defs.specs.Settings.{keyed}
+use Rattle.rp_defs.specs.declared.setting.Setting.{Setting}
+use Rattle.rp_defs.proofs.SlotLemmas.{counts_unknown, counts_known}
+use Rattle.rp_defs.proofs.slots.with_assign.Goals as goal
+
+pub returns-in_default-clause-also : goal.returns-in_default-clause-also
+returns-in_default-clause-also c =
+    counts_unknown (keyed c.args.piece.now c.args.assign.now) c.args.slots
+    (sym c.in_default.is ∙ c.place_of.ensures ∙ ap (λ key. position (bytes_eq key) key_names) c.as_str.ensures)
+
+pub returns-clause-also : goal.returns-clause-also
+returns-clause-also c =
+    counts_known (keyed c.args.piece.now c.args.assign.now) c.args.slots c.with_slot.result c.in-Some.place
+    (sym c.in-Some.is ∙ c.place_of.ensures ∙ ap (λ key. position (bytes_eq key) key_names) c.as_str.ensures)
+    (c.with_slot.ensures ∙ ap (λ (setting : Option Setting). slice_set c.args.slots c.in-Some.place setting) c.in_ok-setting.ensures)

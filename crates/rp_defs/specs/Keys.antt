@@ -1,0 +1,21 @@
+-- The keys of the section [Partition] (repart.d(5)).
+use Rattle.std.specs.Prelude.{ℕ, List, [], ◌∷◌, Bool, codes, slice_index_or}
+use Rattle.std.specs.List.{list_any}
+use Rattle.std.specs.Str.{bytes_eq}
+
+-- the keys in the order in which they are read; a key is known by its place here
+abbrev pub key_names : List (List ℕ)
+key_names = codes "Type" ∷ codes "Label" ∷ codes "UUID" ∷ codes "Priority" ∷ codes "Weight" ∷ codes "PaddingWeight"
+    ∷ codes "SizeMinBytes" ∷ codes "SizeMaxBytes" ∷ codes "PaddingMinBytes" ∷ codes "PaddingMaxBytes"
+    ∷ codes "CopyBlocks" ∷ codes "Verity" ∷ codes "VerityMatchKey"
+    ∷ codes "NoAuto" ∷ codes "ReadOnly" ∷ codes "GrowFileSystem" ∷ codes "FactoryReset"
+    ∷ codes "CopyFiles" ∷ codes "Encrypt" ∷ codes "Flags" ∷ codes "Format" ∷ codes "MakeDirectories" ∷ codes "Minimize"
+    ∷ codes "MountPoint" ∷ codes "Subvolumes" ∷ []
+
+-- the name of the key at a place
+unfoldable pub key_name : ℕ → List ℕ
+key_name key = slice_index_or key_names key []
+
+-- whether a name is a key's
+unfoldable pub is_key : List ℕ → Bool
+is_key name = list_any (bytes_eq name) key_names

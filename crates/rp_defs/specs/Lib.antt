@@ -1,0 +1,11 @@
+pub mod Answers
+pub mod Drafting
+pub mod Faults
+pub mod Joints
+pub mod Keys
+pub mod Pairs
+pub mod Records
+pub mod Settings
+pub mod Slots
+pub mod Values
+pub mod WellFormed

@@ -1,0 +1,29 @@
+//! Definitions of partitions (repart.d(5)): the pieces of definition files become records.
+//!
+//! Sizes are in grains of 4,096 bytes; a definition is known by its place in the list, from 0.
+#![tactic(auto)]
+
+mod attrs;
+mod definition;
+mod draft;
+mod fault;
+mod groups;
+mod ignored;
+mod keys;
+mod pairs;
+mod reader;
+mod sections;
+mod setting;
+mod slots;
+#[cfg(test)]
+mod tests_reader;
+#[cfg(test)]
+mod tests_sections;
+mod texts;
+mod values;
+mod want;
+
+pub use definition::{Definition, Definitions, Verity};
+pub use fault::{DefFault, DefKind};
+pub use keys::key_name;
+pub use reader::read;
