@@ -6,4 +6,8 @@ mod definitions;
 #[cfg(test)]
 mod images;
 #[cfg(test)]
+mod printed;
+#[cfg(test)]
+mod records;
+#[cfg(test)]
 mod show;
