@@ -10,6 +10,7 @@ use std::test::Fail;
 
 // What a definition has that sets no size.
 const MIN: u64 = 2560;
+
 const WEIGHT: u64 = 1000;
 
 /// The place of a fault and what is wrong.
@@ -86,9 +87,7 @@ fn push_want(text: &mut String, want: Want) -> Result<(), Fail> {
         write!(
             text,
             " padding {}-{} weight {}",
-            want.pad_min,
-            want.pad_max,
-            want.pad_weight
+            want.pad_min, want.pad_max, want.pad_weight
         )?;
     }
     Ok(())
