@@ -1,10 +1,14 @@
-//! Definition files: folders to pieces, pieces to assignments.
+//! Definition files of two folders: folders to pieces, pieces to assignments and to one record.
 
+use crate::printed::{push_definition, push_fault};
 use rp_base::{List, Text};
+use rp_defs::{Definitions, read};
 use rp_files::{Piece, load};
 use rp_ini::parse;
 use rp_io::{MemFolders, Stored};
+use rp_types::Arch;
 use std::alloc::{AllocError, Global};
+use std::fmt::Write;
 use std::test::Fail;
 
 // Bytes of a piece.
@@ -32,19 +36,36 @@ fn two_folders_with_a_drop_in_and_a_masked_file(rt: HostRuntime) -> Result<(), F
     let there = texts(rt.alloc(), "A B A/10-x.conf.d")?;
     let mut folders = MemFolders::new(there, files, List::new(rt.alloc()));
     let dirs = texts(rt.alloc(), "A B")?;
-    let mut shown = String::new(rt.alloc());
-    match load(rt.alloc(), &mut folders, dirs.as_slice()) {
-        Ok(pieces) => {
-            for piece in pieces.as_slice() {
-                push_piece(&mut shown, piece)?;
-            }
-        }
-        Err(_) => shown.push_str("no pieces")?,
-    }
+    let shown = shown(rt.alloc(), &mut folders, dirs.as_slice())?;
     assert_eq!(rt;
         shown.as_str(),
-        "10-x.conf  Type=linux-generic;Label=big data;Weight=5;\n10-x.conf 5.conf Weight=7;\n"
+        "10-x.conf  Type=linux-generic;Label=big data;Weight=5;\n10-x.conf 5.conf Weight=7;\n\
+        10-x.conf min 2560 linux-generic label big data weight 7"
     );
+    Ok(())
+}
+
+// The pieces of folders, and their records.
+fn shown(alloc: Global, folders: &mut MemFolders, dirs: &[Text]) -> Result<String, Fail> {
+    let mut shown = String::new(alloc);
+    let Ok(pieces) = load(alloc, folders, dirs) else {
+        return Ok(shown);
+    };
+    for piece in pieces.as_slice() {
+        push_piece(&mut shown, piece)?;
+    }
+    match read(alloc, pieces.as_slice(), Arch::X86_64) {
+        Ok(definitions) => push_records(&mut shown, &definitions)?,
+        Err(fault) => push_fault(&mut shown, &fault)?,
+    }
+    Ok(shown)
+}
+
+fn push_records(shown: &mut String, definitions: &Definitions) -> Result<(), Fail> {
+    for one in definitions.list.as_slice() {
+        write!(shown, "{} min {} ", one.file.as_str(), one.want.min)?;
+        push_definition(shown, one)?;
+    }
     Ok(())
 }
 
