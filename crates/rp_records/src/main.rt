@@ -1,10 +1,10 @@
-//! Prints the definitions of folders of definition files, one a line, or the first fault. It ships nothing: people and
-//! checks read what it prints.
+//! Prints the definitions of the folders that it is given, under x86-64, one a line, or the first fault. It ships nothing:
+//! people and checks read what it prints. The status is 0, or 3 with a fault, 2 without words, and 1 where it can't say.
 #![tactic(auto)]
 
 use rp_base::{Guid, List, Memory, Text};
 use rp_defs::{DefFault, DefKind, Definition, Definitions, Verity, key_name, read};
-use rp_files::load;
+use rp_files::{LoadFault, load};
 use rp_io::HostFolders;
 use rp_types::{Arch, by_guid, write_guid};
 use std::alloc::AllocError;
@@ -46,13 +46,13 @@ fn read_folders(rt: &HostRuntime) -> Result<List<Text>, Memory> {
     Ok(folders)
 }
 
-// The definitions, or the fault. Whether there is none.
+// Adds the definitions, or the first fault. Whether they are the definitions.
 fn push_records(rt: &HostRuntime, text: &mut String, dirs: &[Text]) -> Result<bool, AllocError> {
     let mut folders = HostFolders::new(rt);
     let pieces = match load(rt.alloc(), &mut folders, dirs) {
         Ok(pieces) => pieces,
         Err(fault) => {
-            writeln!(text, "{fault}")?;
+            push_load_fault(text, &fault)?;
             return Ok(false);
         }
     };
@@ -73,6 +73,15 @@ fn push_definitions(text: &mut String, definitions: &Definitions) -> Result<(), 
         push_definition(text, definition)?;
     }
     writeln!(text, "ignored {}", definitions.ignored)
+}
+
+fn push_load_fault(text: &mut String, fault: &LoadFault) -> Result<(), AllocError> {
+    match fault {
+        LoadFault::TooBig { file, part } => {
+            writeln!(text, "{} {}: {fault}", file.as_str(), part.as_str())
+        }
+        _ => writeln!(text, "{fault}"),
+    }
 }
 
 fn push_fault(text: &mut String, fault: &DefFault) -> Result<(), AllocError> {
@@ -109,6 +118,9 @@ fn push_definition(text: &mut String, definition: &Definition) -> Result<(), All
     if let Some(id) = definition.id {
         text.push_str(" id ")?;
         push_guid(text, id)?;
+    }
+    if definition.factory_reset {
+        text.push_str(" reset")?;
     }
     if let Some(source) = &definition.source {
         write!(text, " source {}", source.as_str())?;
