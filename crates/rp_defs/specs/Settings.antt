@@ -56,7 +56,7 @@ counting all name = option_and_then unless_empty (find (λ set. bytes_eq set.0 n
 unfoldable pub counting_of : List Keyed → List (Option Setting)
 counting_of all = map (counting all) key_names
 
--- a setting that counts has a value
+-- where a key is set, its value is not empty
 abbrev pub IsSet : Option Setting → Type 0
 IsSet set = IfSome set (λ setting. setting.value ≢ [])
 

@@ -1,6 +1,6 @@
 use rp_base::{Guid, List, Text, Want};
 
-/// Which half of a verity pair a definition is. `partner` is the place of the other half in the list of definitions.
+/// Which half of a verity pair a definition is, `Off` where it is none. `partner` is the place of the other half in the list of definitions.
 #[derive(Clone, Copy, Debug, PartialEq, Eq)]
 pub enum Verity {
     Off,
@@ -15,9 +15,9 @@ pub struct Definition {
     pub file: Text,
     /// The partition type, `Type=`.
     pub kind: Guid,
-    /// The partition's name in units of UTF-16, zeros behind it, `Label=`.
+    /// The partition's name in units of UTF-16, zeros behind it, `Label=`; none where it is unset.
     pub label: Option<[u16; 36]>,
-    /// The partition's identifier, `UUID=`.
+    /// The partition's identifier, `UUID=`; none where it is unset.
     pub id: Option<Guid>,
     /// `Priority=`: those of the highest number are dropped first. Both halves of a pair have the same.
     pub priority: i32,
@@ -27,8 +27,9 @@ pub struct Definition {
     pub attrs: u64,
     /// The path of the file whose bytes a new partition begins with, `CopyBlocks=`.
     pub source: Option<Text>,
+    /// `Verity=` and `VerityMatchKey=`.
     pub verity: Verity,
-    /// `FactoryReset=`.
+    /// `FactoryReset=`, which nothing reads yet.
     pub factory_reset: bool,
 }
 

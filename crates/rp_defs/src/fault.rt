@@ -3,7 +3,8 @@ use rp_ini::IniFault;
 use std::alloc::Global;
 use thiserror::Error;
 
-/// What is wrong with a definition. `key` is the place of the key in the order in which keys are read, from 0.
+/// What is wrong with a definition. `key` is the place of the key in the order in which keys are read, from 0 to 24; its
+/// name is `key_name` of it.
 #[derive(Clone, Copy, Debug, PartialEq, Eq, Error)]
 pub enum DefKind {
     /// The piece is no definition file. The line stands here too.
@@ -12,7 +13,7 @@ pub enum DefKind {
     /// `Type=` isn't set.
     #[error("no type")]
     NoType,
-    /// The value can't be read.
+    /// The value can't be read, or is out of its bounds.
     #[error("a bad value")]
     BadValue { key: u8 },
     /// The key, or this value of it, isn't supported.
@@ -21,7 +22,7 @@ pub enum DefKind {
     /// The label has more than 36 units of UTF-16.
     #[error("a label of more than 36 units")]
     LabelTooLong,
-    /// A minimum is above its maximum.
+    /// A minimum, of the size or of the padding, is above its maximum, both in grains.
     #[error("a minimum above its maximum")]
     Limits,
     /// Half of a verity pair at fault, the first in order: its match key is unset or isn't that of exactly one data and

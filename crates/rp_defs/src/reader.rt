@@ -17,10 +17,12 @@ use rp_files::Piece;
 use rp_types::Arch;
 use std::alloc::Global;
 
-/// The definitions of these pieces, one for each main file, or the first fault.
+/// The definitions of these pieces, one for each main file, or the first fault: of the definitions in order, then of the
+/// verity pairs. `arch` is what `root`, `usr` and the like, and `%a` stand for.
 ///
-/// The pieces are those that `rp_files::load` answers: each drop-in stands behind its main file or another drop-in of it.
-/// The last assignment of a key in `[Partition]` counts, and an empty one means unset.
+/// The pieces are those that `rp_files::load` answers: at most 256 of at most 65,536 bytes each, and each drop-in stands
+/// behind its main file or another drop-in of it. The last assignment of a key in `[Partition]` counts, and an empty one
+/// means unset.
 pub fn read(alloc: Global, pieces: &[Piece], arch: Arch) -> Result<Definitions, DefFault>
     requires { ArePieces pieces.now }
     ensures answer { Gives no_memory (records arch pieces.now) result }

@@ -15,8 +15,10 @@ const MOST_NAMES: usize = 256;
 
 /// The pieces of these folders, in byte order of the names of main files, each followed by its drop-ins.
 ///
-/// Of one name in several folders the folder given first wins, and an empty file masks its name. All folders are listed
-/// before any file is read. Whether the folders tell or not, there are at most 256 pieces of at most 65,536 bytes each.
+/// `dirs` are the paths of the folders. Of one name in several of them the folder given first wins, and an empty file
+/// masks its name. All folders are listed before any file is read: more than 256 names that win, empty files among them,
+/// are `TooMany`; then the first file of more than 65,536 bytes is `TooBig`. Whether the folders tell or not, there are at
+/// most 256 pieces of at most 65,536 bytes each.
 pub fn load<F: Folders>(
     alloc: Global,
     folders: &mut F,

@@ -47,7 +47,7 @@ IsListing tree folder (Some names) = (has_folder tree folder ≡ true) × IsPerm
 abbrev pub limited : ℕ → List ℕ → Content
 limited limit bytes = if nat_le (length bytes) limit then Whole bytes else More
 
--- all the bytes of a file are at most this many
+-- a content that is whole has at most this many bytes
 abbrev pub IsWithin : ℕ → Content → Type 0
 IsWithin limit (Whole bytes) = length bytes ≤ limit
 IsWithin limit More = ⊤

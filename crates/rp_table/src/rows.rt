@@ -35,8 +35,8 @@ fn is_within(row: &Row, first: u64, last: u64) -> bool
     first <= row.start && row.start + row.size <= last + 1
 }
 
-/// The slots of the first row that shares a sector with a later one, and of the first such row. Each pair is looked at
-/// only where there is one.
+/// The slots of the first row that shares a sector with a later one, and of the first later one that it shares one with.
+/// Each pair is looked at only where two rows share a sector.
 pub fn overlapping_slots(rows: &[Row]) -> Option<(u16, u16)>
     requires few { length rows.now ≤ 128 }
     requires rows { All IsWritableRow rows.now }
@@ -49,7 +49,7 @@ pub fn overlapping_slots(rows: &[Row]) -> Option<(u16, u16)>
     }
 }
 
-/// Whether two rows share a sector: by rising first sector, one then begins in the one before it.
+/// Whether two rows share a sector: then, by rising first sector, some row begins within the one before it.
 fn any_share(rows: &[Row]) -> bool
     requires few { length rows.now ≤ 128 }
     requires rows { All IsWritableRow rows.now }
@@ -87,7 +87,7 @@ fn are_chained(spans: &[(u64, u64)]) -> bool
     true
 }
 
-/// The slots of the first row that shares a sector with a later one, and of the first such row, by each pair.
+/// The same, by looking at each pair.
 fn least_pair(rows: &[Row]) -> Option<(u16, u16)>
     requires { All IsWritableRow rows.now }
     ensures { result ≡ option_map (λ pair. (pair.0.slot, pair.1.slot)) (overlap rows.now) }

@@ -35,7 +35,8 @@ impl From<Memory> for LabelFault {
     }
 }
 
-/// A label as the units of UTF-16 of a partition's name, zeros behind them. `%%` is `%`, and `%a` the architecture.
+/// A label as the 36 units of UTF-16 of a partition's name, zeros behind the text. `%%` is `%`, and `%a` the architecture.
+/// Another `%` is `BadLabel` before all else; then more than 36 units are `TooLong`, and then a U+0000 is `BadLabel`.
 pub fn read_label(alloc: Global, text: &str, arch: Arch) -> Result<[u16; UNITS], LabelFault>
     ensures label { Gives LabelFault.Memory (label_of arch text.now) result }
     ensures not_empty { text.now ≢ [] → IfOk result (λ units. slice_index units 0 ≢ 0) }

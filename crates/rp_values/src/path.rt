@@ -10,7 +10,8 @@ use std::alloc::Global;
 /// The most bytes of a path.
 const LONGEST: usize = 4095;
 
-/// A path of 1 to 4,095 bytes without U+0000. `%%` is `%`, and `%a` the architecture. `None` exactly for any other text.
+/// A path, absolute or relative, of 1 to 4,095 bytes without U+0000 once `%%` is replaced by `%`, and `%a` by the
+/// architecture. `None` exactly for any other text, one with another `%` too.
 pub fn read_path(alloc: Global, text: &str, arch: Arch) -> Result<Option<Text>, Memory>
     ensures { IfOk result (λ path. path ≡ path_of arch text.now) }
 {
