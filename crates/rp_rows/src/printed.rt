@@ -1,4 +1,4 @@
-//! Definitions as texts, for people and tests.
+//! Definitions as texts, for tests.
 
 use rp_base::{Guid, UNLIMITED, Want};
 use rp_defs::{DefFault, DefKind, Definition, Verity, key_name};
@@ -8,7 +8,7 @@ use std::alloc::AllocError;
 use std::fmt::Write;
 use std::test::Fail;
 
-// What a definition has that sets no size.
+// What a definition that is no half of a pair has where it sets no size.
 const MIN: u64 = 2560;
 
 const WEIGHT: u64 = 1000;
@@ -21,9 +21,11 @@ pub fn push_fault(text: &mut String, fault: &DefFault) -> Result<(), Fail> {
     }
     write!(text, ":{} ", fault.line)?;
     match fault.kind {
+        DefKind::Ini(IniFault::NotUtf8 { line: _ }) => text.push_str("NotUtf8")?,
+        DefKind::Ini(IniFault::TooLong { line: _ }) => text.push_str("TooLong")?,
         DefKind::Ini(IniFault::BadLine { line: _ }) => text.push_str("BadLine")?,
         DefKind::Ini(IniFault::NoSection { line: _ }) => text.push_str("NoSection")?,
-        DefKind::Ini(_) => text.push_str("another Ini")?,
+        DefKind::Ini(IniFault::Memory) => text.push_str("Ini Memory")?,
         DefKind::NoType => text.push_str("NoType")?,
         DefKind::BadValue { key } => push_key(text, "BadValue", key)?,
         DefKind::Unsupported { key } => push_key(text, "Unsupported", key)?,
@@ -41,7 +43,7 @@ fn push_key(text: &mut String, kind: &str, key: u8) -> Result<(), AllocError> {
     text.push_str(if key < 25 { key_name(key) } else { "no key" })
 }
 
-/// A definition's type, and what it has that isn't the default.
+/// A definition's type, and what it has that isn't the default; attributes are always shown but where there are none.
 pub fn push_definition(text: &mut String, definition: &Definition) -> Result<(), Fail> {
     push_kind(text, definition.kind)?;
     if let Some(label) = definition.label {

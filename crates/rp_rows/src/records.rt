@@ -26,6 +26,7 @@ Type=0fc63daf84834772 8e793d69d8477de4 => a.conf:2 BadValue Type
 Type=0fc63daf848347728e793d69d8477de4 => linux-generic
 Type={0FC63DAF-8483-4772-8E79-3D69D8477DE4} => linux-generic
 Type=urn:uuid:01234567-89ab-cdef-0123-456789abcdef => 01234567-89ab-cdef-0123-456789abcdef
+Type={0fc63daf848347728e793d69d8477de4} => a.conf:2 BadValue Type
 Type=00000000-0000-0000-0000-000000000000 => a.conf:2 BadValue Type
 Type=Root => a.conf:2 BadValue Type
 Type=%a => a.conf:2 BadValue Type
@@ -54,6 +55,7 @@ Type=swap|UUID=00000000000000000000000000000000 => a.conf:3 BadValue UUID
 Type=swap|Priority=+0 => swap
 Type=swap|Priority=-0 => swap
 Type=swap|Priority=+7 => swap priority 7
+Type=swap|Priority=010 => swap priority 10
 Type=swap|Priority=-2147483648 => swap priority -2147483648
 Type=swap|Priority=2147483647 => swap priority 2147483647
 Type=swap|Priority=2147483648 => a.conf:3 BadValue Priority
@@ -87,6 +89,7 @@ Type=swap|SizeMinBytes=8M|SizeMaxBytes=4M => a.conf:0 Limits
 Type=swap|SizeMinBytes=4097|SizeMaxBytes=8191 => a.conf:0 Limits
 Type=swap|PaddingMinBytes=1B|PaddingMaxBytes=8K => swap padding 1-2 weight 0
 Type=swap|PaddingMinBytes=1|PaddingMaxBytes=4095 => a.conf:0 Limits
+Type=swap|PaddingMaxBytes=0 => swap padding 0-0 weight 0
 Type=swap|PaddingMinBytes=K => a.conf:3 BadValue PaddingMinBytes
 Type=swap|PaddingMaxBytes=99999999999999999999999T => a.conf:3 BadValue PaddingMaxBytes
 Type=swap|Size=1.5G => swap; ignored 1
@@ -100,7 +103,16 @@ Type=root|Verity=Data => a.conf:3 BadValue Verity
 Type=root|Verity=off|VerityMatchKey=m => root-x86-64 attrs 0800000000000000
 Type=swap|VerityMatchKey=♣ => swap
 Type=swap|VerityMatchKey=♣1 => a.conf:3 BadValue VerityMatchKey
+Type=swap|VerityMatchKey=♠ßßßßßßßßßßßßßßßßß => a.conf:3 BadValue VerityMatchKey
+Type=swap|VerityMatchKey=%x => swap
 Type=root|Verity=data|VerityMatchKey=m|CopyBlocks=r => a.conf:0 VerityPair
+Type=root|Verity=data|VerityMatchKey=m|CopyBlocks=r & Type=usr|Verity=data|VerityMatchKey=m|CopyBlocks=u => a.conf:0 VerityPair
+Type=root-verity|Verity=hash|VerityMatchKey=m & Type=usr-verity|Verity=hash|VerityMatchKey=m => a.conf:0 VerityPair
+Type=root|Verity=data|VerityMatchKey=m|CopyBlocks=r & Type=root-verity|Verity=hash|VerityMatchKey=m & Type=usr-verity|Verity=hash|VerityMatchKey=m => a.conf:0 VerityPair
+Type=root|Verity=data|VerityMatchKey=m|CopyBlocks=r & Type=root-verity|Verity=hash|VerityMatchKey=M => a.conf:0 VerityPair
+Type=root|Verity=data|VerityMatchKey=m|CopyBlocks=r|SizeMinBytes=0|PaddingWeight=5 & Type=root-verity|Verity=hash|VerityMatchKey=m|SizeMinBytes=1 => root-x86-64 min 0 weight 0 padding 0-4503599627370496 weight 5 attrs 0800000000000000 source r data 1; root-x86-64-verity min 1 weight 0 attrs 1000000000000000 hash 0
+Type=root|Verity=data|VerityMatchKey=m|CopyBlocks=r|SizeMinBytes=8K|SizeMaxBytes=4K => a.conf:0 Limits
+Type=root|Verity=data|VerityMatchKey=m|CopyBlocks=r|Weight=x & Type=root-verity|Verity=hash|VerityMatchKey=m => a.conf:6 BadValue Weight
 Type=root|Verity=data|VerityMatchKey=m|CopyBlocks=r|Priority=5 & Type=root-verity|Verity=hash|VerityMatchKey=m|Priority=-3 => root-x86-64 priority 5 min 0 weight 0 attrs 0800000000000000 source r data 1; root-x86-64-verity priority 5 min 0 weight 0 attrs 1000000000000000 hash 0
 Type=usr-verity|Verity=hash|VerityMatchKey=m|SizeMinBytes=1M|SizeMaxBytes=1M|Weight=7 & Type=swap & Type=usr|Verity=data|VerityMatchKey=m|CopyBlocks=u|ReadOnly=yes|Priority=1 => usr-x86-64-verity priority 1 min 256 max 256 weight 0 attrs 1000000000000000 hash 2; swap; usr-x86-64 priority 1 min 0 weight 0 attrs 1000000000000000 source u data 0
 Type=usr-verity|Verity=hash|SizeMaxBytes=4095|VerityMatchKey=m & Type=usr|Verity=data|VerityMatchKey=m|CopyBlocks=u => usr-x86-64-verity min 0 max 0 weight 0 attrs 1000000000000000 hash 1; usr-x86-64 min 0 weight 0 attrs 0800000000000000 source u data 0
@@ -133,6 +145,7 @@ Type=swap|Encrypt=tpm2 => a.conf:3 Unsupported Encrypt
 Type=swap|Flags=0 => a.conf:3 Unsupported Flags
 Type=swap|Format=ext4 => a.conf:3 Unsupported Format
 Type=swap|Format= => swap
+Type=swap|MakeSymlinks=/a:/b => swap; ignored 1
 Type=swap|MakeDirectories=/srv => a.conf:3 Unsupported MakeDirectories
 Type=swap|Minimize=off => swap
 Type=swap|Minimize=best => a.conf:3 Unsupported Minimize
@@ -160,7 +173,7 @@ Type=swap|X=1|X=|SplitName=a & +Y=1 & Type=esp|Z=1 => swap; esp; ignored 5
 ";
 
 // How many rows there are.
-const COUNT: u64 = 142;
+const COUNT: u64 = 155;
 
 const LETTERS: &str = "abcdefghijklmnopqrstuvwxyz012345";
 
