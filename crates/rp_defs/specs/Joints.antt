@@ -1,5 +1,5 @@
 -- What the pair of a draft gives to its definition.
-use Rattle.std.specs.Prelude.{List, [], Bool, false}
+use Rattle.std.specs.Prelude.{List, Bool, false}
 use Rattle.std.specs.Option.{option_map_or}
 use Rattle.rp_defs.specs.declared.definition.Verity.TheVariants as verity
 use Rattle.rp_defs.specs.declared.draft.Draft.{Draft}
@@ -8,6 +8,7 @@ use Rattle.rp_defs.specs.declared.draft.Half.TheVariants.{Off, Data, Hash}
 use Rattle.rp_defs.specs.declared.fault.DefFault.{DefFault}
 use Rattle.rp_defs.specs.declared.fault.DefKind.TheVariants.{VerityPair}
 use Rattle.rp_defs.specs.declared.pairs.Joint.{Joint}
+use Rattle.rp_defs.specs.Faults.{whole_fault}
 use Rattle.rp_defs.specs.Pairs.{is_pair, place_of, shared_priority}
 
 -- whether a draft's key has a pair
@@ -24,4 +25,4 @@ joint_of drafts draft = of_half draft.half where
 
 -- the fault of a half that isn't joined
 abbrev pub pair_fault : Draft → DefFault
-pair_fault draft = record { file = draft.definition.file; part = []; line = 0; kind = VerityPair }
+pair_fault draft = whole_fault draft.definition.file VerityPair

@@ -1,5 +1,5 @@
 -- Verity pairs (repart.d(5), Verity= and VerityMatchKey=): a data definition and a hash definition of one key.
-use Rattle.std.specs.Prelude.{ℕ, ℤ, List, [], Bool, true, false, not, ◌&&◌, ◌==◌, int_le, if◌then◌else◌, Option, Some, None, Result, Ok, Err, count_by, find, map, slice_get}
+use Rattle.std.specs.Prelude.{ℕ, ℤ, List, Bool, true, false, not, ◌&&◌, ◌==◌, int_le, if◌then◌else◌, Option, Some, None, Result, Ok, Err, count_by, find, map, slice_get}
 use Rattle.std.specs.List.{position_or_len}
 use Rattle.std.specs.Option.{option_map_or, is_some, is_none}
 use Rattle.std.specs.Str.{bytes_eq}
@@ -11,6 +11,7 @@ use Rattle.rp_defs.specs.declared.draft.Half.{Half}
 use Rattle.rp_defs.specs.declared.draft.Half.TheVariants.{Off, Data, Hash}
 use Rattle.rp_defs.specs.declared.fault.DefFault.{DefFault}
 use Rattle.rp_defs.specs.declared.fault.DefKind.TheVariants.{VerityPair}
+use Rattle.rp_defs.specs.Faults.{whole_fault}
 
 -- whether two halves are one
 abbrev pub same_half : Half → Half → Bool
@@ -78,4 +79,4 @@ unfoldable pub paired : List Draft → Result (List Definition) DefFault
 paired drafts = unless (find (λ draft. not (is_joined drafts draft)) drafts) where
   unless : Option Draft → Result (List Definition) DefFault
   unless None = Ok (map (definition_of drafts) drafts)
-  unless (Some draft) = Err (record { file = draft.definition.file; part = []; line = 0; kind = VerityPair })
+  unless (Some draft) = Err (whole_fault draft.definition.file VerityPair)

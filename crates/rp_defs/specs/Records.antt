@@ -21,17 +21,13 @@ use Rattle.rp_defs.specs.declared.groups.Sizes.{Sizes}
 use Rattle.rp_defs.specs.declared.groups.Contents.{Contents}
 use Rattle.rp_defs.specs.declared.groups.Switches.{Switches}
 use Rattle.rp_defs.specs.declared.fault.DefFault.{DefFault}
-use Rattle.rp_defs.specs.declared.fault.DefKind.{DefKind}
 use Rattle.rp_defs.specs.declared.fault.DefKind.TheVariants.{NoType, Limits}
 use Rattle.rp_defs.specs.Answers.{after, each}
+use Rattle.rp_defs.specs.Faults.{whole_fault}
 use Rattle.rp_defs.specs.declared.setting.Setting.{Setting}
 use Rattle.rp_defs.specs.Settings.{counting_of, read_pieces, all_keyed, all_ignored, groups_of}
 use Rattle.rp_defs.specs.Values.{value_at, kind_value, label_value, id_value, priority_value, weight_value, size_value, source_value, half_value, match_value, switch_value, refused_value, off_value}
 use Rattle.rp_defs.specs.Pairs.{paired}
-
--- a fault of a definition as a whole has no line and no drop-in
-abbrev pub whole_fault : List ℕ → DefKind → DefFault
-whole_fault file kind = record { file = file; part = []; line = 0; kind = kind }
 
 -- a value that has to be set
 abbrev pub required : {T : Type 0} → DefFault → Option T → Result T DefFault
