@@ -1,6 +1,7 @@
 use rp_base::{Guid, List, Text, Want};
 
-/// Which half of a verity pair a definition is, `Off` where it is none. `partner` is the place of the other half in the list of definitions.
+/// Which half of a verity pair a definition is, `Off` where it is none. `partner` is the place of the other half in the
+/// list of definitions.
 #[derive(Clone, Copy, Debug, PartialEq, Eq)]
 pub enum Verity {
     Off,
