@@ -181,7 +181,10 @@ mod tests {
         assert_eq!(rt; names.len(), 1);
         assert!(rt; has_name(&names, "a name.conf"));
         assert!(rt; folders.list(rt.alloc(), inner)?.ok_or("empty")?.len() == 0);
-        assert!(rt; matches!(folders.read(rt.alloc(), file, 5)?, Content::Whole(_)));
+        match folders.read(rt.alloc(), file, 5)? {
+            Content::Whole(bytes) => assert_eq!(rt; bytes.as_slice(), b"hello".as_slice()),
+            Content::More => assert!(rt; false),
+        }
         assert!(rt; matches!(folders.read(rt.alloc(), file, 4)?, Content::More));
         assert_eq!(rt; folders.faults(), 0);
         assert!(rt; matches!(folders.list(rt.alloc(), file), Err(IoFault::Failed)));
