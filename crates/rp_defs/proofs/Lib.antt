@@ -2,6 +2,7 @@ pub mod BoundLemmas
 pub mod CountingLemmas
 pub mod IgnoredLemmas
 pub mod KeyLemmas
+pub mod KnownLemmas
 pub mod ParsedLemmas
 pub mod SectionLemmas
 pub mod SlotLemmas

@@ -17,14 +17,14 @@ use Rattle.rp_defs.specs.Slots.{CountsAlso}
 use Rattle.rp_defs.proofs.CountingLemmas.{length-counting_of}
 
 -- a piece that was read
-abbrev Read : Type 0
+abbrev pub Read : Type 0
 Read = Piece × List Section
 
-abbrev of_piece : Piece → Result (List Section) DefFault → Result Read DefFault
+abbrev pub of_piece : Piece → Result (List Section) DefFault → Result Read DefFault
 of_piece piece (Ok sections) = Ok (piece, sections)
 of_piece piece (Err fault) = Err fault
 
-abbrev read_piece : Piece → Result Read DefFault
+abbrev pub read_piece : Piece → Result Read DefFault
 read_piece piece = of_piece piece (sections_of piece)
 
 read_pieces-each : (pieces : List Piece) → read_pieces pieces ≡ each read_piece pieces

@@ -1,10 +1,10 @@
-ghost use Rattle.std.specs.Prelude.{◌≡◌, ◌≤◌, ◌<◌, ◌+◌, ◌*◌, ◌^◌, All, IfOk, ◌==◌, length, drop};
+ghost use Rattle.std.specs.Prelude.{◌≡◌, ◌≤◌, ◌<◌, ◌+◌, ◌*◌, ◌^◌, All, IfOk, IfErr, ◌==◌, length, drop};
 ghost use Rattle.std.specs.List.{prefix_len};
 ghost use Rattle.rp_base.specs.Answers.{Gives};
 ghost use Rattle.rp_files.specs.Pieces.{ArePieces};
 ghost use Rattle.rp_files.specs.declared.piece.Piece.{Piece as Read};
 ghost use Rattle.rp_defs.specs.Drafting.{drafts_of, with_group, is_part};
-ghost use Rattle.rp_defs.specs.Faults.{no_memory};
+ghost use Rattle.rp_defs.specs.Faults.{no_memory, IsKnown};
 ghost use Rattle.rp_defs.specs.Records.{records};
 ghost use Rattle.rp_defs.specs.WellFormed.{IsSoundDraft, IsWellFormed};
 
@@ -26,6 +26,7 @@ use std::alloc::Global;
 pub fn read(alloc: Global, pieces: &[Piece], arch: Arch) -> Result<Definitions, DefFault>
     requires { ArePieces pieces.now }
     ensures answer { Gives no_memory (records arch pieces.now) result }
+    ensures key { IfErr result (λ fault. IsKnown fault.kind) }
     ensures well_formed { IfOk result (λ definitions. IsWellFormed definitions.list) }
 {
     let drafts = drafts_of(alloc, pieces, arch)?;
