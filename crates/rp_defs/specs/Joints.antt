@@ -1,6 +1,5 @@
 -- What the pair of a draft gives to its definition.
-use Rattle.std.specs.Prelude.{List, Bool, false}
-use Rattle.std.specs.Option.{option_map_or}
+use Rattle.std.specs.Prelude.{List}
 use Rattle.rp_defs.specs.declared.definition.Verity.TheVariants as verity
 use Rattle.rp_defs.specs.declared.draft.Draft.{Draft}
 use Rattle.rp_defs.specs.declared.draft.Half.{Half}
@@ -9,11 +8,7 @@ use Rattle.rp_defs.specs.declared.fault.DefFault.{DefFault}
 use Rattle.rp_defs.specs.declared.fault.DefKind.TheVariants.{VerityPair}
 use Rattle.rp_defs.specs.declared.pairs.Joint.{Joint}
 use Rattle.rp_defs.specs.Faults.{whole_fault}
-use Rattle.rp_defs.specs.Pairs.{is_pair, place_of, shared_priority}
-
--- whether a draft's key has a pair
-abbrev pub has_pair : List Draft → Draft → Bool
-has_pair drafts draft = option_map_or (is_pair drafts) draft.key false
+use Rattle.rp_defs.specs.Pairs.{place_of, shared_priority}
 
 -- the verity and the priority of a draft's definition
 abbrev pub joint_of : List Draft → Draft → Joint

@@ -28,16 +28,17 @@ is_half half key draft = same_half half draft.half && option_map_or (bytes_eq ke
 abbrev pub is_pair : List Draft → List ℕ → Bool
 is_pair drafts key = count_by (is_half Data key) drafts == 1 && count_by (is_half Hash key) drafts == 1
 
+-- whether a draft's key has a pair
+abbrev pub has_pair : List Draft → Draft → Bool
+has_pair drafts draft = option_map_or (is_pair drafts) draft.key false
+
 -- a draft that is no half, or the data of a pair, with a source, or the hash of one, without
 unfoldable pub is_joined : List Draft → Draft → Bool
 is_joined drafts draft = joined draft.half where
-  has_pair : Bool
-  has_pair = option_map_or (is_pair drafts) draft.key false
-
   joined : Half → Bool
   joined Off = true
-  joined Data = has_pair && is_some draft.definition.source
-  joined Hash = has_pair && is_none draft.definition.source
+  joined Data = has_pair drafts draft && is_some draft.definition.source
+  joined Hash = has_pair drafts draft && is_none draft.definition.source
 
 -- the place of a half of the pair of a draft's key
 abbrev pub place_of : List Draft → Half → Draft → ℕ
