@@ -1,6 +1,6 @@
 -- The keys of the section [Partition] (repart.d(5)).
 use Rattle.std.specs.Prelude.{ℕ, List, [], ◌∷◌, Bool, codes, slice_index_or}
-use Rattle.std.specs.List.{list_any}
+use Rattle.std.specs.List.{list_any, position_or_len}
 use Rattle.std.specs.Str.{bytes_eq}
 
 -- the keys in the order in which they are read; a key is known by its place here
@@ -11,6 +11,10 @@ key_names = codes "Type" ∷ codes "Label" ∷ codes "UUID" ∷ codes "Priority"
     ∷ codes "NoAuto" ∷ codes "ReadOnly" ∷ codes "GrowFileSystem" ∷ codes "FactoryReset"
     ∷ codes "CopyFiles" ∷ codes "Encrypt" ∷ codes "Flags" ∷ codes "Format" ∷ codes "MakeDirectories" ∷ codes "Minimize"
     ∷ codes "MountPoint" ∷ codes "Subvolumes" ∷ []
+
+-- the key of a name, by its place
+abbrev pub key_named : List ℕ → ℕ
+key_named name = position_or_len (bytes_eq name) key_names
 
 -- the name of the key at a place
 unfoldable pub key_name : ℕ → List ℕ

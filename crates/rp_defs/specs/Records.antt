@@ -1,5 +1,5 @@
 -- Definitions as records (repart.d(5)): a definition from what its pieces set, and all definitions of the pieces.
-use Rattle.std.specs.Prelude.{ℕ, ◌+◌, ◌/◌, ◌^◌, min, max, pos, List, [], ◌∷◌, Bool, true, false, ◌||◌, ◌==◌, nat_lt, if◌then◌else◌, Option, Some, None, Result, Ok, Err, map, sum_by, unwrap_or, bit_and}
+use Rattle.std.specs.Prelude.{ℕ, ◌+◌, ◌/◌, ◌^◌, min, max, pos, List, [], ◌∷◌, Bool, true, false, ◌||◌, ◌==◌, nat_lt, if◌then◌else◌, Option, Some, None, Result, Ok, Err, map, sum_by, unwrap_or, bit_and, codes}
 use Rattle.std.specs.List.{list_any}
 use Rattle.std.specs.Option.{option_map_or}
 use Rattle.rp_base.specs.declared.guid.Guid.{Guid}
@@ -24,6 +24,7 @@ use Rattle.rp_defs.specs.declared.fault.DefFault.{DefFault}
 use Rattle.rp_defs.specs.declared.fault.DefKind.TheVariants.{NoType, Limits}
 use Rattle.rp_defs.specs.Answers.{after, each}
 use Rattle.rp_defs.specs.Faults.{whole_fault}
+use Rattle.rp_defs.specs.Keys.{key_named}
 use Rattle.rp_defs.specs.declared.setting.Setting.{Setting}
 use Rattle.rp_defs.specs.Settings.{counting_of, read_pieces, all_keyed, all_ignored, groups_of}
 use Rattle.rp_defs.specs.Values.{value_at, kind_value, label_value, id_value, priority_value, weight_value, size_value, source_value, half_value, match_value, switch_value, refused_value, off_value}
@@ -37,52 +38,52 @@ required fault (Some value) = Ok value
 -- the keys Type to Priority
 unfoldable pub identity_of : Arch → List ℕ → List (Option Setting) → Result Identity DefFault
 identity_of arch file counting =
-    after (value_at (kind_value arch) file counting 0) (λ set.
+    after (value_at (kind_value arch) file counting (key_named (codes "Type"))) (λ set.
     after (required (whole_fault file NoType) set) (λ kind.
-    after (value_at (label_value arch) file counting 1) (λ label.
-    after (value_at id_value file counting 2) (λ id.
-    after (value_at priority_value file counting 3) (λ priority.
+    after (value_at (label_value arch) file counting (key_named (codes "Label"))) (λ label.
+    after (value_at id_value file counting (key_named (codes "UUID"))) (λ id.
+    after (value_at priority_value file counting (key_named (codes "Priority"))) (λ priority.
     Ok (record { kind = kind; label = label; id = id; priority = unwrap_or priority (pos 0) }))))))
 
 -- the keys Weight to PaddingMaxBytes, as they are set
 unfoldable pub sizes_of : List ℕ → List (Option Setting) → Result Sizes DefFault
 sizes_of file counting =
-    after (value_at weight_value file counting 4) (λ weight.
-    after (value_at weight_value file counting 5) (λ pad_weight.
-    after (value_at size_value file counting 6) (λ min.
-    after (value_at size_value file counting 7) (λ max.
-    after (value_at size_value file counting 8) (λ pad_min.
-    after (value_at size_value file counting 9) (λ pad_max.
+    after (value_at weight_value file counting (key_named (codes "Weight"))) (λ weight.
+    after (value_at weight_value file counting (key_named (codes "PaddingWeight"))) (λ pad_weight.
+    after (value_at size_value file counting (key_named (codes "SizeMinBytes"))) (λ min.
+    after (value_at size_value file counting (key_named (codes "SizeMaxBytes"))) (λ max.
+    after (value_at size_value file counting (key_named (codes "PaddingMinBytes"))) (λ pad_min.
+    after (value_at size_value file counting (key_named (codes "PaddingMaxBytes"))) (λ pad_max.
     Ok (record { weight = weight; pad_weight = pad_weight; min = min; max = max; pad_min = pad_min; pad_max = pad_max })))))))
 
 -- the keys CopyBlocks to VerityMatchKey
 unfoldable pub contents_of : Arch → List ℕ → List (Option Setting) → Result Contents DefFault
 contents_of arch file counting =
-    after (value_at (source_value arch) file counting 10) (λ source.
-    after (value_at half_value file counting 11) (λ half.
-    after (value_at match_value file counting 12) (λ key.
+    after (value_at (source_value arch) file counting (key_named (codes "CopyBlocks"))) (λ source.
+    after (value_at half_value file counting (key_named (codes "Verity"))) (λ half.
+    after (value_at match_value file counting (key_named (codes "VerityMatchKey"))) (λ key.
     Ok (record { source = source; half = unwrap_or half Off; key = key }))))
 
 -- the keys NoAuto to FactoryReset, as they are set
 unfoldable pub switches_of : List ℕ → List (Option Setting) → Result Switches DefFault
 switches_of file counting =
-    after (value_at switch_value file counting 13) (λ no_auto.
-    after (value_at switch_value file counting 14) (λ read_only.
-    after (value_at switch_value file counting 15) (λ grow.
-    after (value_at switch_value file counting 16) (λ factory_reset.
+    after (value_at switch_value file counting (key_named (codes "NoAuto"))) (λ no_auto.
+    after (value_at switch_value file counting (key_named (codes "ReadOnly"))) (λ read_only.
+    after (value_at switch_value file counting (key_named (codes "GrowFileSystem"))) (λ grow.
+    after (value_at switch_value file counting (key_named (codes "FactoryReset"))) (λ factory_reset.
     Ok (record { no_auto = no_auto; read_only = read_only; grow = grow; factory_reset = factory_reset })))))
 
 -- the keys CopyFiles to Subvolumes, which aren't supported; Encrypt and Minimize may be off
 unfoldable pub refusals : List ℕ → List (Option Setting) → Result (Unit {0}) DefFault
 refusals file counting =
-    after (value_at refused_value file counting 17) (λ _.
-    after (value_at off_value file counting 18) (λ _.
-    after (value_at refused_value file counting 19) (λ _.
-    after (value_at refused_value file counting 20) (λ _.
-    after (value_at refused_value file counting 21) (λ _.
-    after (value_at off_value file counting 22) (λ _.
-    after (value_at refused_value file counting 23) (λ _.
-    after (value_at refused_value file counting 24) (λ _. Ok tt))))))))
+    after (value_at refused_value file counting (key_named (codes "CopyFiles"))) (λ _.
+    after (value_at off_value file counting (key_named (codes "Encrypt"))) (λ _.
+    after (value_at refused_value file counting (key_named (codes "Flags"))) (λ _.
+    after (value_at refused_value file counting (key_named (codes "Format"))) (λ _.
+    after (value_at refused_value file counting (key_named (codes "MakeDirectories"))) (λ _.
+    after (value_at off_value file counting (key_named (codes "Minimize"))) (λ _.
+    after (value_at refused_value file counting (key_named (codes "MountPoint"))) (λ _.
+    after (value_at refused_value file counting (key_named (codes "Subvolumes"))) (λ _. Ok tt))))))))
 
 -- bytes in grains of 4,096, rounded up and down
 abbrev pub grains_up : ℕ → ℕ
