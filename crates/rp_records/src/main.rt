@@ -2,6 +2,8 @@
 //! people and checks read what it prints. The status is 0, or 3 with a fault, 2 without words, and 1 where it can't say.
 #![tactic(auto)]
 
+ghost use Rattle.rp_defs.specs.Faults.{IsKnown};
+
 use rp_base::{Guid, List, Memory, Text};
 use rp_defs::{DefFault, DefKind, Definition, Definitions, Verity, key_name, read};
 use rp_files::{LoadFault, load};
@@ -11,9 +13,6 @@ use std::alloc::AllocError;
 use std::env;
 use std::fmt::Write;
 use std::process::ExitCode;
-
-/// Keys of `[Partition]`.
-const KEYS: u8 = 25;
 
 fn main(rt: HostRuntime) -> ExitCode {
     let Ok(folders) = read_folders(&rt) else {
@@ -84,10 +83,12 @@ fn push_load_fault(text: &mut String, fault: &LoadFault) -> Result<(), AllocErro
     }
 }
 
-fn push_fault(text: &mut String, fault: &DefFault) -> Result<(), AllocError> {
+fn push_fault(text: &mut String, fault: &DefFault) -> Result<(), AllocError>
+    requires { IsKnown fault.now.kind }
+{
     let (file, part) = (fault.file.as_str(), fault.part.as_str());
     match fault.kind {
-        DefKind::BadValue { key } | DefKind::Unsupported { key } if key < KEYS => writeln!(
+        DefKind::BadValue { key } | DefKind::Unsupported { key } => writeln!(
             text,
             "{file} {part}:{} {:?} {}",
             fault.line,

@@ -1,5 +1,8 @@
 //! Definitions as texts, for tests.
 
+ghost use Rattle.std.specs.Prelude.{◌<◌};
+ghost use Rattle.rp_defs.specs.Faults.{IsKnown};
+
 use rp_base::{Guid, UNLIMITED, Want};
 use rp_defs::{DefFault, DefKind, Definition, Verity, key_name};
 use rp_ini::IniFault;
@@ -14,7 +17,9 @@ const MIN: u64 = 2560;
 const WEIGHT: u64 = 1000;
 
 /// The place of a fault and what is wrong.
-pub fn push_fault(text: &mut String, fault: &DefFault) -> Result<(), Fail> {
+pub fn push_fault(text: &mut String, fault: &DefFault) -> Result<(), Fail>
+    requires { IsKnown fault.now.kind }
+{
     text.push_str(fault.file.as_str())?;
     if fault.part.as_str() != "" {
         write!(text, ".d/{}", fault.part.as_str())?;
@@ -37,10 +42,12 @@ pub fn push_fault(text: &mut String, fault: &DefFault) -> Result<(), Fail> {
     Ok(())
 }
 
-fn push_key(text: &mut String, kind: &str, key: u8) -> Result<(), AllocError> {
+fn push_key(text: &mut String, kind: &str, key: u8) -> Result<(), AllocError>
+    requires { key < 25 }
+{
     text.push_str(kind)?;
     text.push_str(" ")?;
-    text.push_str(if key < 25 { key_name(key) } else { "no key" })
+    text.push_str(key_name(key))
 }
 
 /// A definition's type, and what it has that isn't the default; attributes are always shown but where there are none.
