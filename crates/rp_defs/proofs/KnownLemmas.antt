@@ -1,6 +1,6 @@
 -- The keys that faults of definitions name: each reader is read at the place of a key, so no fault names another.
-use Rattle.std.proofs.Common.{◌≡◌, ℕ, ◌<◌, List, [], ◌∷◌, Bool, true, false, cond, not, map, Option, Some, None, Result, Ok, Err, arith, inl, inr, refl, sym}
-use Rattle.std.specs.Prelude.{codes, find, sum_by, length, nat_le, ◌&&◌, if◌then◌else◌, IfErr}
+use Rattle.std.proofs.Common.{◌≡◌, ℕ, ◌<◌, List, [], ◌∷◌, Bool, true, false, map, Option, Some, None, Result, Ok, Err, arith, inl, inr, refl}
+use Rattle.std.specs.Prelude.{codes, find, length, nat_le, ◌&&◌, if◌then◌else◌, IfErr}
 use Rattle.std.specs.Str.{bytes_eq}
 use Rattle.std.specs.Result.{result_map_both}
 use Rattle.rp_base.specs.Answers.{Gives}
@@ -8,22 +8,21 @@ use Rattle.rp_types.specs.declared.arch.Arch.{Arch}
 use Rattle.rp_files.specs.declared.piece.Piece.{Piece}
 use Rattle.rp_ini.specs.Lines.{Section, assignments}
 use Rattle.rp_ini.specs.declared.fault.IniFault.{IniFault}
-use Rattle.rp_values.specs.Texts.{label_of, path_of}
+use Rattle.rp_values.specs.Texts.{label_of}
 use Rattle.rp_values.specs.declared.label.LabelFault.{LabelFault}
 use Rattle.rp_values.specs.declared.label.LabelFault.TheVariants as labels
 use Rattle.rp_defs.specs.declared.definition.Definitions.{Definitions}
 use Rattle.rp_defs.specs.declared.draft.Draft.{Draft}
-use Rattle.rp_defs.specs.declared.draft.Half.{Half}
 use Rattle.rp_defs.specs.declared.draft.Half.TheVariants.{Off, Data, Hash}
 use Rattle.rp_defs.specs.declared.fault.DefFault.{DefFault}
 use Rattle.rp_defs.specs.declared.fault.DefKind.{DefKind}
 use Rattle.rp_defs.specs.declared.fault.DefKind.TheVariants.{BadValue, Unsupported, NoType, Limits}
 use Rattle.rp_defs.specs.declared.setting.Setting.{Setting}
 use Rattle.rp_defs.specs.Answers.{after, each}
-use Rattle.rp_defs.specs.Faults.{no_memory, IsKnown}
-use Rattle.rp_defs.specs.Pairs.{is_joined, paired}
-use Rattle.rp_defs.specs.Records.{Drafted, identity_of, sizes_of, contents_of, switches_of, refusals, draft_of, drafted, drafted_group, has_no_size, records, required, whole_fault, within_limits}
-use Rattle.rp_defs.specs.Settings.{all_ignored, all_keyed, counting_of, groups_of, read_pieces, sections_in, sections_of}
+use Rattle.rp_defs.specs.Faults.{no_memory, whole_fault, IsKnown}
+use Rattle.rp_defs.specs.Pairs.{paired}
+use Rattle.rp_defs.specs.Records.{identity_of, sizes_of, contents_of, switches_of, refusals, draft_of, drafted, drafted_group, records, required}
+use Rattle.rp_defs.specs.Settings.{all_keyed, counting_of, groups_of, read_pieces, sections_in}
 use Rattle.rp_defs.specs.Values.{Reader, or_bad, label_kind, read_at, read_set, value_at, kind_value, label_value, id_value, priority_value, weight_value, size_value, source_value, half_value, match_value, switch_value, refused_value, off_value}
 use Rattle.rp_defs.proofs.PairLemmas.{is_unjoined}
 use Rattle.rp_defs.proofs.SectionLemmas.{of_piece, read_piece}
