@@ -55,6 +55,17 @@ fn a_verity_pair_and_a_drop_in(rt: HostRuntime) -> Result<(), Fail> {
     Ok(())
 }
 
+#[test]
+fn no_pieces_are_no_definitions(rt: HostRuntime) -> Result<(), Fail> {
+    let mut shown = String::new(rt.alloc());
+    match definitions(rt.alloc(), &[]) {
+        Ok(definitions) => show(&mut shown, &definitions)?,
+        Err(fault) => write!(shown, "{fault}")?,
+    }
+    assert_eq!(rt; shown.as_str(), "0 ignored");
+    Ok(())
+}
+
 // The definitions of few short pieces.
 fn definitions(alloc: Global, pieces: &[Piece]) -> Result<Definitions, DefFault> {
     if pieces.len() > 256 || !are_short(pieces) {

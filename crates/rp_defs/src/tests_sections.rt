@@ -9,14 +9,14 @@ use std::fmt::Write;
 use std::test::Fail;
 
 fn piece(rt: &impl AllocGlobal, part: &str, text: &str) -> Result<Piece, Fail> {
-    let mut bytes = List::new(rt.alloc());
-    for byte in text.as_bytes() {
-        bytes.push(*byte)?;
-    }
+    piece_of(rt, part, text.as_bytes())
+}
+
+fn piece_of(rt: &impl AllocGlobal, part: &str, bytes: &[u8]) -> Result<Piece, Fail> {
     Ok(Piece {
         file: Text::from_str(rt.alloc(), "50-root.conf")?,
         part: Text::from_str(rt.alloc(), part)?,
-        bytes,
+        bytes: List::from_vec(bytes.to_vec(rt.alloc())?),
     })
 }
 
@@ -83,6 +83,28 @@ fn the_first_fault_is_named(rt: HostRuntime) -> Result<(), Fail> {
     assert_eq!(rt;
         shown(&rt, &pieces)?.as_str(),
         "10.conf line 2: neither a section nor an assignment"
+    );
+    Ok(())
+}
+
+// Want of memory would pass in place of a fault, so each fault of a text is met once.
+#[test]
+fn each_fault_of_a_text_is_named(rt: HostRuntime) -> Result<(), Fail> {
+    let pieces = [piece_of(&rt, "10.conf", b"[Partition]\nLabel=\xff\n")?];
+    assert_eq!(rt; shown(&rt, &pieces)?.as_str(), "10.conf line 2: not UTF-8");
+    let mut text = String::from_str(rt.alloc(), "[Partition]\n\nLabel=")?;
+    for _ in 0..4096 {
+        text.push('v')?;
+    }
+    let pieces = [piece(&rt, "", text.as_str())?];
+    assert_eq!(rt;
+        shown(&rt, &pieces)?.as_str(),
+        " line 3: longer than 4,096 bytes"
+    );
+    let pieces = [piece(&rt, "20.conf", "Label=a\n")?];
+    assert_eq!(rt;
+        shown(&rt, &pieces)?.as_str(),
+        "20.conf line 1: an assignment before the first section"
     );
     Ok(())
 }
