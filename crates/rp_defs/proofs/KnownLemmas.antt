@@ -28,8 +28,8 @@ use Rattle.rp_defs.proofs.PairLemmas.{is_unjoined}
 use Rattle.rp_defs.proofs.SectionLemmas.{of_piece, read_piece}
 
 -- a key that the fault of an answer names is one of the 25
-pub record Knows {T : Type 0} (answer : Result T DefFault) : Type 0 where
-  pub known : IfErr answer (λ fault. IsKnown fault.kind)
+record Knows {T : Type 0} (answer : Result T DefFault) : Type 0 where
+  known : IfErr answer (λ fault. IsKnown fault.kind)
 
 after_knows : {S T : Type 0} (answer : Result S DefFault) (next : S → Result T DefFault) → Knows answer → ((value : S) → Knows (next value)) → Knows (after answer next)
 after_knows (Ok value) next first rest = rest value
@@ -39,7 +39,7 @@ each_knows : {S T : Type 0} (answer : S → Result T DefFault) (items : List S) 
 each_knows answer [] all = record { known = tt }
 each_knows answer (item ∷ items) all = after_knows (answer item) _ (all item) (λ value. after_knows (each answer items) _ (each_knows answer items all) (λ values. record { known = tt }))
 
--- the same of a text that was read
+-- the same of the answer of a reader
 record ReadsKnown {T : Type 0} (read : Result T DefKind) : Type 0 where
   known : IfErr read IsKnown
 
@@ -47,6 +47,7 @@ record ReadsKnown {T : Type 0} (read : Result T DefKind) : Type 0 where
 abbrev KeepsKey : {T : Type 0} → Reader T → Type 0
 KeepsKey reader = (key : ℕ) (text : List ℕ) → key < 25 → ReadsKnown (reader key text)
 
+-- a value, a bad value and one that isn't supported
 read : {T : Type 0} (value : T) → ReadsKnown (Ok value)
 read value = record { known = tt }
 
@@ -56,6 +57,7 @@ bad key below = record { known = below }
 refused : {T : Type 0} (key : ℕ) → key < 25 → ReadsKnown {T = T} (Err (Unsupported key))
 refused key below = record { known = below }
 
+-- each reader
 or_bad_known : {T : Type 0} (key : ℕ) (value : Option T) → key < 25 → ReadsKnown (or_bad key value)
 or_bad_known key None below = bad key below
 or_bad_known key (Some value) below = read value
@@ -191,6 +193,7 @@ draft_knows arch file counting =
     after_knows _ _ (switches_knows file counting) (λ switches.
     after_knows _ _ (refusals_knows file counting) (λ _. limits_knows _ file _)))))
 
+-- what is read of a piece: a fault of its text names no key
 sections_know : (piece : Piece) (read : Result (List Section) IniFault) → Knows (of_piece piece (sections_in piece read))
 sections_know piece (Ok sections) = record { known = tt }
 sections_know piece (Err fault) = record { known = tt }
@@ -213,6 +216,7 @@ unfolding paired
 pairs_know drafts None is = rw is (record { known = tt })
 pairs_know drafts (Some draft) is = rw is (record { known = tt })
 
+-- all definitions
 records_know : (arch : Arch) (pieces : List Piece) → Knows (records arch pieces)
 unfolding records
 records_know arch pieces =
