@@ -1,7 +1,11 @@
 pub mod Answers
 pub mod Faults
+pub mod Geometry
 pub mod Guid
 pub mod Image
 pub mod List
+pub mod Name
+pub mod Plan
 pub mod Table
+pub mod Trees
 pub mod Wants

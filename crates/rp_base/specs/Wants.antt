@@ -1,5 +1,5 @@
 -- What a definition may ask for (repart.d(5), SizeMinBytes=, SizeMaxBytes=, Weight= and the same for Padding).
-use Rattle.std.specs.Prelude.{ℕ, ◌<◌, ◌≤◌, ◌^◌, List, All, length}
+use Rattle.std.specs.Prelude.{◌<◌, ◌≤◌, ◌^◌, List, All, length}
 use Rattle.rp_base.specs.declared.want.Want.{Want}
 
 -- minima are at most their maxima and below 2^49 grains, maxima at most 2^52 grains, and weights at most 1,000,000

@@ -8,8 +8,8 @@ pub enum Origin {
     Neither,
 }
 
-/// What the first sector holds, beside the protective MBR of the image's size (UEFI 2.10, 5.2.3): that record, another
-/// state that may be overwritten, or partitions of another table.
+/// What the first 512 bytes hold where the protective MBR lies (UEFI 2.10, 5.2.3): the record of the image's size, other
+/// bytes that may be overwritten, or partitions of another table.
 #[derive(Clone, Copy, Debug, PartialEq, Eq)]
 pub enum Mbr {
     Same,
@@ -17,8 +17,8 @@ pub enum Mbr {
     Foreign,
 }
 
-/// What was read of an image: its length in sectors, the table that it shows, and how far both copies and the MBR are
-/// what would be written for that table.
+/// What was read of an image: its length in units of 512 bytes, the table that it shows, whether each place holds the exact
+/// copy of that table, and the state of the MBR.
 #[derive(Debug, Drop)]
 pub struct Seen {
     pub sectors: u64,

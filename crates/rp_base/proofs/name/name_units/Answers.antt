@@ -1,10 +1,10 @@
 use Rattle.std.proofs.Common.{◌≡◌, ℕ, ◌+◌, List, [], ◌∷◌, ◌++◌, take, set, IsUtf8, refl, sym, ap, subst, ◌∙◌, arith, length-take-le}
 use Rattle.std.specs.Str.Iter.{encode_utf16_rest, encode_utf16_pending}
 use Rattle.std.proofs.lemmas.List.{append_assoc, append-nil}
-use Rattle.rp_gpt.specs.Name.{units_of}
-use Rattle.rp_gpt.proofs.Units.{HasFront, HasFront-more, units_left, units_left-all, units_left-more, units_left-none, name_of-short, name_of-long, name_of-zero}
-use Rattle.rp_gpt.proofs.name.name_units.Goals as goal
-use Rattle.rp_gpt.proofs.name.name_units.Goals.{then-len-eq-UNITS-via-then-len-eq-UNITS, then-len-eq-UNITS-via-else-len-eq-UNITS+then-unit-eq0}
+use Rattle.rp_base.specs.Name.{units_of}
+use Rattle.rp_base.proofs.Units.{HasFront, HasFront-more, units_left, units_left-all, units_left-more, units_left-none, name_of-short, name_of-long, name_of-zero}
+use Rattle.rp_base.proofs.name.name_units.Goals as goal
+use Rattle.rp_base.proofs.name.name_units.Goals.{then-len-eq-UNITS-via-then-len-eq-UNITS, then-len-eq-UNITS-via-else-len-eq-UNITS+then-unit-eq0}
 
 pub loop-unit-init : goal.loop-unit-init
 loop-unit-init c =

@@ -8,7 +8,7 @@ use Rattle.std.proofs.lemmas.Str.{chars_past_char, IsUtf8-past_char, chars-nil}
 use Rattle.std.proofs.lemmas.Bool.{lt-leb}
 use Rattle.std.proofs.lemmas.List.{length-set, length-append, take_more_set, drop-replicate, nil_from_length}
 use Rattle.std.proofs.lemmas.List.Folds.{list_any-append}
-use Rattle.rp_gpt.specs.Name.{units_of, name_of}
+use Rattle.rp_base.specs.Name.{units_of, name_of}
 
 -- what an iterator has left
 unfoldable pub units_left : EncodeUtf16 → List ℕ

@@ -1,7 +1,7 @@
 //! Names of partitions.
 
 ghost use Rattle.std.specs.Prelude.{◌≡◌};
-ghost use Rattle.rp_gpt.specs.Name.{name_of, units_of};
+ghost use Rattle.rp_base.specs.Name.{name_of, units_of};
 
 /// Units of a name.
 const UNITS: usize = 36;

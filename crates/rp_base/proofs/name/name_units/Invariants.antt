@@ -1,8 +1,8 @@
 use Rattle.std.proofs.Common.{◌≡◌, ◌++◌, take, IsUtf8}
 use Rattle.std.specs.Str.Iter.{encode_utf16_rest}
-use Rattle.rp_gpt.specs.Name.{units_of}
-use Rattle.rp_gpt.proofs.Units.{HasFront, units_left}
-use Rattle.rp_gpt.proofs.name.name_units.Given as goal
+use Rattle.rp_base.specs.Name.{units_of}
+use Rattle.rp_base.proofs.Units.{HasFront, units_left}
+use Rattle.rp_base.proofs.name.name_units.Given as goal
 
 abbrev pub invariant-loop-unit : goal.invariant-loop-unit
 invariant-loop-unit l = record {
