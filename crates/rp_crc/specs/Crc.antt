@@ -1,5 +1,5 @@
--- CRC-32, the check sum that UEFI 2.10, 5.3.2 takes from ISO 3309 and ITU-T V.42. Addition is without
--- carry, which is the exclusive or of the bits.
+-- CRC-32, the checksum of headers and arrays (UEFI 2.10, 5.3.2; ISO 3309; ITU-T V.42, 8.1.1.6.2). Addition is without carry,
+-- which is the exclusive or of the bits.
 use Rattle.std.specs.Prelude.{ℕ, ◌/◌, ◌%◌, ◌-◌, ◌^◌, ◌==◌, List, [], ◌∷◌, fold, bit_xor, if◌then◌else◌}
 use Rattle.std.specs.Int.{bit_at, bit_not, w32}
 
