@@ -6,7 +6,7 @@ use Rattle.std.proofs.lemmas.List.Elements.{All-head, All-tail}
 use Rattle.std.proofs.lemmas.List.Sums.{sum_by-cons, sum-map, get_or-le-sum_by}
 use Rattle.std.proofs.Math.Nat.{mul-le-mul_left}
 use Rattle.rp_share.specs.declared.item.Item.{Item}
-use Rattle.rp_share.specs.declared.TheConstants.{LEVEL_SCALE, MAX_WEIGHT}
+use Rattle.rp_share.specs.declared.TheConstants.{LEVEL_SCALE}
 use Rattle.rp_share.specs.Level.{grains_at}
 use Rattle.rp_share.specs.Share.{IsAbove, IsBelow, IsFair, IsFull, IsShare, ComesBefore, item_at}
 use Rattle.rp_share.proofs.Numbers.{within_then_below}
@@ -28,7 +28,7 @@ module _ (level : ℕ) (item : Item) (limits : item.min ≤ item.max) where
   within_level above = omega arith
 
   -- the next level has at most a grain more
-  next_level : item.weight ≤ MAX_WEIGHT → grains_at (level + 1) item ≤ grains_at level item + 1
+  next_level : item.weight ≤ 1000000 → grains_at (level + 1) item ≤ grains_at level item + 1
   next_level light = omega arith
 
   above_level : grains_at level item < item.max → level * item.weight < (grains_at level item + 1) * LEVEL_SCALE
@@ -68,7 +68,7 @@ abbrev HasLimits : Item → Type 0
 HasLimits item = item.min ≤ item.max
 
 abbrev IsLight : Item → Type 0
-IsLight item = item.weight ≤ MAX_WEIGHT
+IsLight item = item.weight ≤ 1000000
 
 -- the sum at the next level has at most a grain more an item
 next_sum : (level : ℕ) (items : List Item) → All HasLimits items → All IsLight items → sum_by (grains_at (level + 1)) items ≤ sum_by (grains_at level) items + length items

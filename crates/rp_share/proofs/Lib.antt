@@ -1,6 +1,8 @@
-pub mod Numbers
-pub mod LawLemmas
-pub mod LevelLemmas
-pub mod NextLemmas
-pub mod RestLemmas
-pub mod ValueLemmas
+mod AgainLemmas
+mod LawLemmas
+mod LevelLemmas
+mod NextLemmas
+mod Numbers
+pub mod Public
+mod RestLemmas
+mod ValueLemmas

@@ -1,3 +1,4 @@
+pub mod Again
 pub mod Due
 pub mod Level
 pub mod Share

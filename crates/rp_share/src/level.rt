@@ -1,10 +1,10 @@
 //! The greatest level at which the shares fit in the span. At a level each item has as many grains as its weight times
 //! the level makes, within its limits.
 
-ghost use Rattle.std.specs.Prelude.{◌≡◌, ◌+◌, ◌*◌, ◌<◌, ◌≤◌, ◌⊎◌, ◌↔◌, IsTrue, length, map, sum_by};
+ghost use Rattle.std.specs.Prelude.{◌≡◌, ◌+◌, ◌*◌, ◌^◌, ◌<◌, ◌≤◌, ◌⊎◌, ◌↔◌, IsTrue, length, map, sum_by};
 ghost use Rattle.rp_share.specs.Level.{grains_at};
 
-use crate::{Item, LEVEL_SCALE, MAX_SPAN};
+use crate::{Item, LEVEL_SCALE};
 
 /// Whether the grains of all items at `level` fit in `span`.
 fn fits(level: u64, span: u64, items: &[Item]) -> bool
@@ -24,7 +24,7 @@ fn fits(level: u64, span: u64, items: &[Item]) -> bool
 /// The greatest level that fits, up to the one at which a unit of weight has the whole span.
 pub(crate) fn greatest_level(span: u64, items: &[Item]) -> u64
     requires minima { sum_by (grains_at 0) items.now ≤ span }
-    requires span { span ≤ MAX_SPAN }
+    requires span { span ≤ 2 ^ 32 }
 
     ensures fits { sum_by (grains_at result) items.now ≤ span }
     ensures greatest { (result ≡ span * LEVEL_SCALE) ⊎ (span < sum_by (grains_at (result + 1)) items.now) }

@@ -9,23 +9,15 @@
 #![tactic(auto)]
 
 mod item;
+pub mod law;
 mod level;
 mod rest;
 
-ghost use Rattle.std.specs.Prelude.{◌≡◌, ◌≤◌, All, length, sum_by};
-ghost use Rattle.rp_share.specs.Share.{IsShare, OneShare};
+ghost use Rattle.std.specs.Prelude.{◌≡◌, ◌≤◌, ◌^◌, All, length, sum_by};
+ghost use Rattle.rp_share.specs.Share.{IsShare};
 ghost use Rattle.rp_share.specs.Value.{shares_of};
 
 pub use item::Item;
-
-/// The most items of a span. The time goes by their square.
-pub const MAX_ITEMS: usize = 512;
-
-/// The greatest weight.
-pub const MAX_WEIGHT: u64 = 1_000_000;
-
-/// The greatest span, in grains: it is 2^44 bytes.
-pub const MAX_SPAN: u64 = 1 << 32;
 
 /// Levels in one grain for each unit of weight. They are more than the greatest weight, so that from one level to the
 /// next no item gains more than a grain.
@@ -33,17 +25,17 @@ const LEVEL_SCALE: u64 = 1 << 20;
 
 /// Divides `span` grains among `items`, and writes the share of each, in grains, to its place in `out`. Where the maxima
 /// are less than the span, a part of it is left.
+///
+/// A span is at most 2^32 grains, which are 2^44 bytes; the time goes by the square of the number of items.
 pub fn share(span: u64, items: &[Item], out: &mut [u64])
     requires places { length out.old ≡ length items.now }
-    requires count { length items.now ≤ MAX_ITEMS }
+    requires count { length items.now ≤ 512 }
     requires limits { All (λ item. item.min ≤ item.max) items.now }
-    requires weights { All (λ item. item.weight ≤ MAX_WEIGHT) items.now }
+    requires weights { All (λ item. item.weight ≤ 1000000) items.now }
     requires minima { sum_by (λ item. item.min) items.now ≤ span }
-    requires span { span ≤ MAX_SPAN }
+    requires span { span ≤ 2 ^ 32 }
 
     ensures share { IsShare span items.now out.new }
-    // Nothing else is a share.
-    ensures only { OneShare span items.now }
     ensures value { out.new ≡ shares_of span items.now }
 {
     let level = level::greatest_level(span, items);

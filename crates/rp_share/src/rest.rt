@@ -1,10 +1,10 @@
 //! The grains that are left at the greatest level.
 
-ghost use Rattle.std.specs.Prelude.{◌≡◌, ◌+◌, ◌<◌, ◌≤◌, ◌⊎◌, length, sum};
+ghost use Rattle.std.specs.Prelude.{◌≡◌, ◌+◌, ◌^◌, ◌<◌, ◌≤◌, ◌⊎◌, length, sum};
 ghost use Rattle.rp_share.specs.Due.{IsNext};
 ghost use Rattle.rp_share.specs.Share.{IsFair, IsFull, IsShare};
 
-use crate::{Item, MAX_SPAN};
+use crate::Item;
 
 /// The item whose grain is next of those up to `place`, where `next` is the one of those before.
 fn next_with(next: Option<usize>, items: &[Item], shares: &[u64], place: usize) -> Option<usize>
@@ -45,7 +45,7 @@ fn next_of(items: &[Item], shares: &[u64]) -> Option<usize>
 /// the items for each grain, so at most one an item.
 pub(crate) fn hand_out(rest: u64, items: &[Item], shares: &mut [u64])
     requires fair { IsFair items.now shares.old }
-    requires span { sum shares.old + rest ≤ MAX_SPAN }
+    requires span { sum shares.old + rest ≤ 2 ^ 32 }
     requires few { (rest ≤ length items.now) ⊎ IsFull items.now shares.old }
 
     ensures { IsShare (sum shares.old + rest) items.now shares.new }

@@ -1,6 +1,5 @@
 use Rattle.std.proofs.Common.{◌≤◌, ◌⊎◌, length, subst, sym}
 use Rattle.rp_share.specs.Share.{IsFair, IsFull}
-use Rattle.rp_share.proofs.LawLemmas.{one_share}
 use Rattle.rp_share.proofs.LevelLemmas.{fair_at, few_left, share_of_span}
 use Rattle.rp_share.proofs.ValueLemmas.{value_of_share}
 use Rattle.rp_share.proofs.share.Goals as goal
@@ -13,9 +12,6 @@ pub returns-clause-share : goal.returns-clause-share
 returns-clause-share c =
     share_of_span c.args.span c.greatest_level-level.result c.fill-rest.result c.args.items.now c.fill-rest.new.shares _
     c.fill-rest.ensures.filled c.fill-rest.ensures.rest c.hand_out.ensures
-
-pub returns-clause-only : goal.returns-clause-only
-returns-clause-only c = one_share c.args.span c.args.items.now
 
 pub returns-clause-value : goal.returns-clause-value
 returns-clause-value c =
