@@ -1,3 +1,3 @@
 mod Computed
 pub mod GuidLemmas
-mod Units
+pub mod Units
