@@ -1,5 +1,5 @@
 -- What the areas of a laid out table keep clear of, and what their anchors are.
-use Rattle.std.proofs.Common.{◌≡◌, ℕ, ◌+◌, ◌-◌, ◌*◌, ◌/◌, ◌<◌, ◌≤◌, ◌⊎◌, Bool, true, false, cond, List, [], ◌∷◌, get_or, slice_get, fold, Option, Some, None, IfSome, IsSome, All, arith, refl, sym, ap, ◌∙◌, inl, inr, nat_lt}
+use Rattle.std.proofs.Common.{◌≡◌, ℕ, ◌+◌, ◌-◌, ◌*◌, ◌/◌, ◌<◌, ◌≤◌, ◌⊎◌, Bool, true, false, cond, List, [], ◌∷◌, get_or, slice_get, fold, Option, Some, None, IfSome, IsSome, All, arith, refl, sym, ap, ◌∙◌, inl, inr, max, nat_lt}
 use Rattle.std.specs.List.{cons_option}
 use Rattle.std.specs.Option.{option_and_then, is_some}
 use Rattle.std.proofs.lemmas.Bool.{ltb-false}
@@ -9,7 +9,7 @@ use Rattle.rp_base.specs.declared.want.Want.{Want}
 use Rattle.rp_areas.specs.declared.behind.Refusal.{Refusal}
 use Rattle.rp_areas.specs.declared.extents.Extent.{Extent}
 use Rattle.rp_areas.specs.declared.gaps.Area.{Area}
-use Rattle.rp_areas.specs.Areas.{anchor_of, area_before, area_behind, areas_behind, least_refusal, lesser, limit_of, refusal_of, refusals_of, used_of, want_at}
+use Rattle.rp_areas.specs.Areas.{anchor_of, area_before, area_behind, areas_behind, grains_up, least_refusal, lesser, limit_of, refusal_of, refusals_of, used_of, want_at}
 use Rattle.rp_areas.specs.Facts.{IsAnchored, IsWithin}
 use Rattle.rp_areas.proofs.Chain.{IsBefore, IsChained}
 use Rattle.rp_areas.proofs.Facts.{Fits, anchor_fits, area_with, lies}
@@ -31,9 +31,9 @@ within_behind first last wants (e ∷ es) from to =
     (omega (arith, here, l.low), λ some. omega (arith, some, small, l.span))
     (within_behind first last wants es (All-tail (λ (f : Extent). first ≤ f.start) e es from) (All-tail (λ (f : Extent). f.start ≤ last + 1) e es to))
 
-pub areas_within : (first last : ℕ) (wants : List Want) (es : List Extent) → All (λ (e : Extent). first ≤ e.start) es → All (λ (e : Extent). e.start ≤ last + 1) es
+pub within_all : (first last : ℕ) (wants : List Want) (es : List Extent) → All (λ (e : Extent). first ≤ e.start) es → All (λ (e : Extent). e.start ≤ last + 1) es
     → All (IsWithin first last) (area_before first last es ∷ areas_behind last wants es)
-areas_within first last wants es from to =
+within_all first last wants es from to =
     let small : 8 * limit_of last es ≤ last + 1 = small_limit last es to in
     All-cons (IsWithin first last) (area_before first last es) (areas_behind last wants es) (omega arith, λ some. omega (arith, some, small)) (within_behind first last wants es from to)
 
@@ -76,13 +76,13 @@ stays_some : (b : Refusal) (rs : List Refusal) → fold lesser (Some b) rs ≡ N
 stays_some b [] h = let k : Some b ≡ None = h in cc
 stays_some b (r ∷ rs) h = stays_some (cond (nat_lt r.file b.file) r b) rs h
 
-none_refused : (rs : List Refusal) → least_refusal rs ≡ None → rs ≡ []
+pub none_refused : (rs : List Refusal) → least_refusal rs ≡ None → rs ≡ []
 none_refused [] h = refl
 none_refused (r ∷ rs) h = absurd (stays_some r rs h)
 
-pub areas_used : (first last : ℕ) (wants : List Want) (es : List Extent) → least_refusal (refusals_of last wants es) ≡ None
+pub used_all : (first last : ℕ) (wants : List Want) (es : List Extent) → least_refusal (refusals_of last wants es) ≡ None
     → All (λ (a : Area). a.used ≤ a.span) (area_before first last es ∷ areas_behind last wants es)
-areas_used first last wants es none = All-cons (λ (a : Area). a.used ≤ a.span) (area_before first last es) (areas_behind last wants es) (omega arith)
+used_all first last wants es none = All-cons (λ (a : Area). a.used ≤ a.span) (area_before first last es) (areas_behind last wants es) (omega arith)
     (used_behind last wants es (none_refused (refusals_of last wants es) none))
 
 -- Anchors.
@@ -92,22 +92,29 @@ abbrev pub Comes : List Row → List (Option ℕ) → Extent → Type 0
 Comes rows matched e = IfSome e.file (λ file. (place : ℕ) × (row : Row) × (slice_get matched file ≡ Some (Some place)) × (slice_get rows place ≡ Some row) × (row.start ≡ e.start) × (row.size ≡ e.size))
 
 anchored_with : (rows : List Row) (matched : List (Option ℕ)) (wants : List Want) (limit : ℕ) (e : Extent) (o : Option ℕ) → Comes rows matched e → IfSome o (Fits limit e)
-    → IsAnchored rows matched (area_with wants limit e o)
-anchored_with rows matched wants limit e None comes fits = tt
+    → IsAnchored rows matched wants (area_with wants limit e o)
+anchored_with rows matched wants limit e None comes fits = refl
 anchored_with rows matched wants limit e (Some file) comes fits =
     let at : (place : ℕ) × (row : Row) × (slice_get matched file ≡ Some (Some place)) × (slice_get rows place ≡ Some row) × (row.start ≡ e.start) × (row.size ≡ e.size) = rw fits.0 at comes in
-    (at.0, at.1, at.2, at.3, omega (arith, at.4, fits.1), omega (arith, at.5))
+    record {
+      place = at.0;
+      row = at.1;
+      has = at.2;
+      found = at.3;
+      begins = omega (arith, at.4, fits.1);
+      uses = ap (λ (size : ℕ). max (grains_up size) (want_at wants file).min + (want_at wants file).pad_min) (sym at.5);
+    }
 
-anchored_behind : (rows : List Row) (matched : List (Option ℕ)) (last : ℕ) (wants : List Want) (es : List Extent) → All (Comes rows matched) es → All (IsAnchored rows matched) (areas_behind last wants es)
-anchored_behind rows matched last wants [] each = All-nil (IsAnchored rows matched)
+anchored_behind : (rows : List Row) (matched : List (Option ℕ)) (last : ℕ) (wants : List Want) (es : List Extent) → All (Comes rows matched) es → All (IsAnchored rows matched wants) (areas_behind last wants es)
+anchored_behind rows matched last wants [] each = All-nil (IsAnchored rows matched wants)
 anchored_behind rows matched last wants (e ∷ es) each =
-    All-cons (IsAnchored rows matched) (area_behind wants (limit_of last es) e) (areas_behind last wants es)
+    All-cons (IsAnchored rows matched wants) (area_behind wants (limit_of last es) e) (areas_behind last wants es)
     (anchored_with rows matched wants (limit_of last es) e (anchor_of (limit_of last es) e) (All-head (Comes rows matched) e es each) (anchor_fits (limit_of last es) e))
     (anchored_behind rows matched last wants es (All-tail (Comes rows matched) e es each))
 
-pub areas_anchored : (rows : List Row) (matched : List (Option ℕ)) (first last : ℕ) (wants : List Want) (es : List Extent) → All (Comes rows matched) es
-    → All (IsAnchored rows matched) (area_before first last es ∷ areas_behind last wants es)
-areas_anchored rows matched first last wants es each = All-cons (IsAnchored rows matched) (area_before first last es) (areas_behind last wants es) tt (anchored_behind rows matched last wants es each)
+pub anchored_all : (rows : List Row) (matched : List (Option ℕ)) (first last : ℕ) (wants : List Want) (es : List Extent) → All (Comes rows matched) es
+    → All (IsAnchored rows matched wants) (area_before first last es ∷ areas_behind last wants es)
+anchored_all rows matched first last wants es each = All-cons (IsAnchored rows matched wants) (area_before first last es) (areas_behind last wants es) refl (anchored_behind rows matched last wants es each)
 
 -- Clear of rows.
 
@@ -146,7 +153,7 @@ clear_behind last wants (e ∷ es) chain =
     (later_missed last (area_behind wants (limit_of last es) e) es l.span some chain.1))
     (λ k d below some. All-cons (Misses (get_or (areas_behind last wants es) k d)) e es (inl (past k d below)) (rest k d below some))
 
-pub areas_clear : (first last : ℕ) (wants : List Want) (es : List Extent) → IsChained es
+pub clear_all : (first last : ℕ) (wants : List Want) (es : List Extent) → IsChained es
     → All (λ (a : Area). 0 < a.span → All (Misses a) es) (area_before first last es ∷ areas_behind last wants es)
-areas_clear first last wants es chain = All-cons (λ (a : Area). 0 < a.span → All (Misses a) es) (area_before first last es) (areas_behind last wants es)
+clear_all first last wants es chain = All-cons (λ (a : Area). 0 < a.span → All (Misses a) es) (area_before first last es) (areas_behind last wants es)
     (λ some. later_missed last (area_before first last es) es refl some chain) (clear_behind last wants es chain)

@@ -76,8 +76,8 @@ apart_behind last wants (e ∷ es) chain =
     (All-weaker (IsBefore e) (λ (f : Extent). (area_behind wants (limit_of last es) e).from ≤ grains_up f.start) (λ f h. omega (arith, h, l.high)) es chain.0) chain.1)
     (apart_behind last wants es chain.1)
 
-pub areas_apart : (first last : ℕ) (wants : List Want) (es : List Extent) → IsChained es → All (λ (e : Extent). first ≤ e.start) es
+pub apart_all : (first last : ℕ) (wants : List Want) (es : List Extent) → IsChained es → All (λ (e : Extent). first ≤ e.start) es
     → AllPairs EndsBefore (area_before first last es ∷ areas_behind last wants es)
-areas_apart first last wants es chain from = AllPairs-cons EndsBefore (area_before first last es) (areas_behind last wants es)
+apart_all first last wants es chain from = AllPairs-cons EndsBefore (area_before first last es) (areas_behind last wants es)
     (ends_before last wants (area_before first last es) es refl (All-weaker (λ (e : Extent). first ≤ e.start) (λ (f : Extent). grains_up first ≤ grains_up f.start) (λ f h. omega (arith, h)) es from) chain)
     (apart_behind last wants es chain)

@@ -1,10 +1,15 @@
-pub mod Chain
-pub mod Clear
-pub mod Facts
-pub mod Laid
-pub mod Loops
-pub mod Matched
-pub mod Order
-pub mod Places
-pub mod Ranks
-pub mod Rows
+mod Again
+mod Chain
+mod Clear
+mod Facts
+mod Laid
+mod Loops
+mod Matched
+mod Order
+mod Owners
+mod Places
+pub mod Public
+mod Ranks
+mod Rematched
+mod Rows
+mod Woven

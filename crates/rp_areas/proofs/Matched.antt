@@ -38,7 +38,7 @@ nth_step : {X : Type 0} (p : X → Bool) (n : ℕ) (y : X) (ys : List X) (rank p
     → ((r : ℕ) → slice_get (passing p (n + 1) ys) r ≡ Some (place, x) → IsNth p (n + 1) ys r place x)
     → slice_get (cond b ((n, y) ∷ passing p (n + 1) ys) (passing p (n + 1) ys)) rank ≡ Some (place, x) → IsNth p n (y ∷ ys) rank place x
 nth_step {X = X} p n y ys zero place x true is rest h =
-    let e : Some (n, y) ≡ Some (place, x) = h in
+    let e : ◌≡◌ {A = Option (ℕ × X)} (Some (n, y)) (Some (place, x)) = h in
     let both : ◌≡◌ {A = ℕ × X} (n, y) (place, x) = cc in
     let here : n ≡ place = ap (λ q. q.0) both in
     let same : y ≡ x = ap (λ q. q.1) both in
@@ -65,7 +65,7 @@ nth_at p n (y ∷ ys) (suc k) x h passes =
     ap (slice_get (passing p n (y ∷ ys))) (sum_by-cons (λ z. cond (p z) 1 0) y (take k ys))
     ∙ past_one (p y) (n, y) (passing p (n + 1) ys) (count_by p (take k ys)) ∙ nth_at p (n + 1) ys k x h passes ∙ ap (λ m. Some (m, x)) s
 
-slice_get-map-enumerate : {X Y : Type 0} (f : ℕ × X → Y) (n : ℕ) (xs : List X) (k : ℕ) → slice_get (map f (enumerate_from n xs)) k ≡ option_map (λ x. f (n + k, x)) (slice_get xs k)
+pub slice_get-map-enumerate : {X Y : Type 0} (f : ℕ × X → Y) (n : ℕ) (xs : List X) (k : ℕ) → slice_get (map f (enumerate_from n xs)) k ≡ option_map (λ x. f (n + k, x)) (slice_get xs k)
 slice_get-map-enumerate f n [] k = refl
 slice_get-map-enumerate f n (x ∷ xs) zero = ap (λ m. Some (f (m, x))) (sym (add-zero n))
 slice_get-map-enumerate f n (x ∷ xs) (suc k) =
@@ -73,11 +73,11 @@ slice_get-map-enumerate f n (x ∷ xs) (suc k) =
     slice_get-map-enumerate f (n + 1) xs k ∙ ap (λ m. option_map (λ y. f (m, y)) (slice_get xs k)) s
 
 -- the types of rows count as the rows do
-rank-rows : (rows : List Row) (place : ℕ) (kind : Guid) → rank_of (map (λ (r : Row). r.kind) rows) place kind ≡ count_by (λ (r : Row). is_kind r.kind kind) (take place rows)
+pub rank-rows : (rows : List Row) (place : ℕ) (kind : Guid) → rank_of (map (λ (r : Row). r.kind) rows) place kind ≡ count_by (λ (r : Row). is_kind r.kind kind) (take place rows)
 rank-rows rows place kind = ap (count_by (λ k. is_kind k kind)) (take-map (λ (r : Row). r.kind) place rows)
     ∙ fold-map (λ a k. a + cond (is_kind k kind) 1 0) (λ (r : Row). r.kind) 0 (take place rows)
 
-own_kind : (kind : Guid) → is_kind kind kind ≡ true
+pub own_kind : (kind : Guid) → is_kind kind kind ≡ true
 own_kind kind = nat_list_eq_equiv.refl kind.0
 
 from_row : (rows : List Row) (kinds : List Guid) (file place : ℕ) (kind : Guid) (o : Option (ℕ × Row)) → slice_get kinds file ≡ Some kind

@@ -1,3 +1,4 @@
+pub mod Again
 pub mod Areas
 pub mod Counting
 pub mod Extents

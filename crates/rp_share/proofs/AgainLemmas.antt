@@ -160,9 +160,9 @@ pub again_of_new : (own least most weight share : ℕ) → least ≤ own → own
 again_of_new own least most weight share limits more fits = record { more = omega arith; least = omega arith; most = omega arith; weight = refl; same_most = λ _. omega arith }
 
 -- of a new one of an exact size, whose definition has no weight
-pub again_of_exact : (own least most weight : ℕ) → least ≤ own → weight ≡ 0
-    → IsAgain (record { min = own; max = own; weight = 0 }) own (asked own least most weight)
-again_of_exact own least most weight limits none = record { more = omega arith; least = omega arith; most = omega arith; weight = none; same_most = λ some. absurd (omega arith) }
+pub again_of_exact : (own least most weight share : ℕ) → least ≤ own → share ≡ own → weight ≡ 0
+    → IsAgain (record { min = own; max = own; weight = 0 }) share (asked share least most weight)
+again_of_exact own least most weight share limits same none = record { more = omega arith; least = omega arith; most = omega arith; weight = none; same_most = λ some. absurd (omega arith) }
 
 -- the first two items apart, the others have their share of what is left
 module _ (span : ℕ) (first second : Item) (items : List Item) (x y : ℕ) (shares : List ℕ) (share : IsShare span (first ∷ second ∷ items) (x ∷ y ∷ shares)) where

@@ -46,6 +46,6 @@ pub fn what_is_asked_again()
         → IsAgain (asked has least most weight) share (asked share least most weight) }
     ensures new { (own least most weight share : ℕ) → least ≤ own → own ≤ share → share ≤ most
         → IsAgain (record { min = own; max = most; weight = weight }) share (asked share least most weight) }
-    ensures exact { (own least most weight : ℕ) → least ≤ own → weight ≡ 0
-        → IsAgain (record { min = own; max = own; weight = 0 }) own (asked own least most weight) }
+    ensures exact { (own least most weight share : ℕ) → least ≤ own → share ≡ own → weight ≡ 0
+        → IsAgain (record { min = own; max = own; weight = 0 }) share (asked share least most weight) }
 {}

@@ -8,7 +8,7 @@ use Rattle.rp_base.specs.declared.guid.Guid.{Guid}
 use Rattle.rp_base.specs.declared.table.Row.{Row}
 use Rattle.rp_areas.specs.Counting.{place_in}
 use Rattle.rp_areas.specs.Matching.{is_kind, match_of, matches_of, rank_of, rows_of}
-use Rattle.rp_areas.proofs.Matched.{matched_both, matched_distinct, matched_len, matched_places}
+use Rattle.rp_areas.proofs.Matched.{matched_len, matched_places}
 use Rattle.rp_areas.proofs.Places.{map-enumerate_more}
 use Rattle.rp_areas.proofs.matching.assign.Goals as goal
 
@@ -50,11 +50,5 @@ returns-clause-matches c = made c.args.table.now.rows c.args.kinds.now c.loop-ki
 pub returns-clause-len : goal.returns-clause-len
 returns-clause-len c = rw (made c.args.table.now.rows c.args.kinds.now c.loop-kind.kind-index c.loop-kind.matched (omega arith) c.loop-kind.invariant.1) (matched_len c.args.table.now.rows c.args.kinds.now)
 
-pub returns-clause-matched : goal.returns-clause-matched
-returns-clause-matched c = rw (made c.args.table.now.rows c.args.kinds.now c.loop-kind.kind-index c.loop-kind.matched (omega arith) c.loop-kind.invariant.1) (matched_both c.args.table.now.rows c.args.kinds.now)
-
 pub returns-clause-places : goal.returns-clause-places
 returns-clause-places c = rw (made c.args.table.now.rows c.args.kinds.now c.loop-kind.kind-index c.loop-kind.matched (omega arith) c.loop-kind.invariant.1) (matched_places c.args.table.now.rows c.args.kinds.now)
-
-pub returns-clause-distinct : goal.returns-clause-distinct
-returns-clause-distinct c = rw (made c.args.table.now.rows c.args.kinds.now c.loop-kind.kind-index c.loop-kind.matched (omega arith) c.loop-kind.invariant.1) (matched_distinct c.args.table.now.rows c.args.kinds.now)
