@@ -1,8 +1,7 @@
 -- Rows by rising start are one list.
 use Rattle.std.proofs.Common.{get_or, subst, ◌≡◌, ℕ, ◌+◌, ◌-◌, ◌*◌, ◌/◌, ◌<◌, ◌≤◌, ◌⊎◌, List, [], ◌∷◌, Option, Some, None, IfSome, Result, Ok, Err, All, AllPairs, arith, refl, ap, ◌∙◌, inl, inr}
 use Rattle.std.specs.Option.{option_map_or}
-use Rattle.std.proofs.lemmas.List.Elements.{All-cons, All-head, All-nil, All-tail, All-weaker}
-use Rattle.std.proofs.lemmas.Option.{get_or_from_slice_get, slice_get-get_or, slice_get_within}
+use Rattle.std.proofs.lemmas.List.Elements.{All-cons, All-contains, All-head, All-nil, All-tail, All-weaker, Contains-get_or}
 use Rattle.rp_base.specs.declared.want.Want.{Want}
 use Rattle.rp_base.specs.declared.table.Table.{Table}
 use Rattle.rp_areas.specs.declared.extents.Extent.{Extent}
@@ -142,11 +141,7 @@ rising_woven last wants (e ∷ es) (ps ∷ stacks) sized chain are =
     (rising_woven last wants es stacks later chain.1 are.1)
 
 covers : (fs es : List Extent) → AreAmong fs es → Covers fs es
-covers fs es among P each k d below =
-    let e : Extent = get_or fs k d in
-    let at = among k e (slice_get-get_or fs k d below) in
-    let here : get_or es at.0 d ≡ e = get_or_from_slice_get es at.0 e d at.1 in
-    subst P here (each at.0 d (slice_get_within es at.0 e at.1))
+covers fs es among P each k d below = All-contains P es (get_or fs k d) each (among (get_or fs k d) (Contains-get_or fs k d below))
 
 rises : (es : List Extent) → AllPairs (λ (a b : Extent). a.start < b.start) es → IsRising es
 rises [] pairs = tt

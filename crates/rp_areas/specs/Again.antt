@@ -1,5 +1,5 @@
 -- The rows of a table once more rows stand in its areas, each with its padding.
-use Rattle.std.specs.Prelude.{ℕ, ◌≡◌, ◌≤◌, ◌+◌, ◌-◌, ◌*◌, Option, Some, None, IfSome, IsOk, List, [], ◌∷◌, All, slice_get}
+use Rattle.std.specs.Prelude.{ℕ, ◌≡◌, ◌≤◌, ◌+◌, ◌-◌, ◌*◌, Option, Some, None, IfSome, IsOk, List, [], ◌∷◌, All, Contains}
 use Rattle.rp_base.specs.declared.table.Table.{Table}
 use Rattle.rp_base.specs.declared.want.Want.{Want}
 use Rattle.rp_base.specs.Table.{IsLaidOut}
@@ -90,7 +90,7 @@ rows_again table last matched wants before stacks = stacked (grains_up table.fir
 
 -- each of the one stands in the other
 abbrev pub AreAmong : List Extent → List Extent → Type 0
-AreAmong es others = (k : ℕ) (e : Extent) → slice_get es k ≡ Some e → (j : ℕ) × (slice_get others j ≡ Some e)
+AreAmong es others = (e : Extent) → Contains es e → Contains others e
 
 -- a laid out table has the rows of another, none of which was refused, with pieces that fit in the areas
 pub record IsFilled (table again : Table) (last : ℕ) (matched rematched : List (Option ℕ)) (wants : List Want) (before : List Piece) (stacks : List (List Piece)) : Type 0 where
