@@ -8,7 +8,7 @@ use Rattle.rp_types.specs.declared.arch.Arch.{Arch}
 use Rattle.rp_files.specs.declared.piece.Piece.{Piece}
 use Rattle.rp_ini.specs.Lines.{Section, assignments}
 use Rattle.rp_ini.specs.declared.fault.IniFault.{IniFault}
-use Rattle.rp_values.specs.Texts.{label_of}
+use Rattle.rp_values.specs.Texts.{label_of_text}
 use Rattle.rp_values.specs.declared.label.LabelFault.{LabelFault}
 use Rattle.rp_values.specs.declared.label.LabelFault.TheVariants as labels
 use Rattle.rp_defs.specs.declared.definition.Definitions.{Definitions}
@@ -82,7 +82,7 @@ label_of_known key (Ok units) below = read units
 label_of_known key (Err fault) below = record { known = label_kind_known key fault below }
 
 label_known : (arch : Arch) → KeepsKey (label_value arch)
-label_known arch key text below = label_of_known key (label_of arch text) below
+label_known arch key text below = label_of_known key (label_of_text arch text) below
 
 priority_known : KeepsKey priority_value
 priority_known key text below = or_bad_known key _ below

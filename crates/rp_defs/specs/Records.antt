@@ -8,7 +8,7 @@ use Rattle.rp_types.specs.declared.arch.Arch.{Arch}
 use Rattle.rp_types.specs.declared.arch.Arch.TheVariants.{X86_64, Arm64}
 use Rattle.rp_types.specs.declared.arch.Designator.{Designator}
 use Rattle.rp_types.specs.declared.arch.Designator.TheVariants as designators
-use Rattle.rp_types.specs.Rules.{no_auto, read_only, grow_file_system}
+use Rattle.rp_types.specs.Table.{no_auto, read_only, grow_file_system}
 use Rattle.rp_types.specs.Types.{bits_of, designator_of}
 use Rattle.rp_files.specs.declared.piece.Piece.{Piece}
 use Rattle.rp_defs.specs.declared.definition.Definitions.{Definitions}

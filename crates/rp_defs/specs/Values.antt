@@ -9,7 +9,7 @@ use Rattle.rp_types.specs.Guids.{guid_of}
 use Rattle.rp_types.specs.Types.{by_name}
 use Rattle.rp_values.specs.Numbers.{size_of, weight_of, priority_of}
 use Rattle.rp_values.specs.Switches.{switch_of}
-use Rattle.rp_values.specs.Texts.{label_of, path_of}
+use Rattle.rp_values.specs.Texts.{label_of_text, path_of}
 use Rattle.rp_values.specs.declared.label.LabelFault.{LabelFault}
 use Rattle.rp_values.specs.declared.label.LabelFault.TheVariants as labels
 use Rattle.rp_defs.specs.declared.fault.DefFault.{DefFault}
@@ -39,14 +39,14 @@ kind_value arch key text = or_bad key (option_or (by_name text arch) (option_and
 abbrev pub id_value : Reader Guid
 id_value key text = if bytes_eq text (codes "null") then Err (kinds.Unsupported key) else or_bad key (option_and_then unless_zero (guid_of text))
 
--- a label's fault as one of its key; `label_of` never answers want of memory
+-- a label's fault as one of its key; `label_of_text` never answers want of memory
 abbrev pub label_kind : ℕ → LabelFault → DefKind
 label_kind key labels.BadLabel = kinds.BadValue key
 label_kind key labels.TooLong = kinds.LabelTooLong
 label_kind key labels.Memory = kinds.Memory
 
 abbrev pub label_value : Arch → Reader (List ℕ)
-label_value arch key text = result_map_both (λ units. units) (label_kind key) (label_of arch text)
+label_value arch key text = result_map_both (λ units. units) (label_kind key) (label_of_text arch text)
 
 abbrev pub priority_value : Reader ℤ
 priority_value key text = or_bad key (priority_of text)

@@ -12,12 +12,13 @@ use Rattle.rp_types.specs.declared.arch.Arch.TheVariants.{X86_64, Arm64}
 use Rattle.rp_types.specs.declared.arch.Designator.{Designator}
 use Rattle.rp_types.specs.declared.table.PartitionType.{PartitionType}
 use Rattle.rp_types.specs.Designators.{designator_name, designator_under}
-use Rattle.rp_types.specs.Types.{types, entry_of, by_guid, by_name, is_called, padded}
+use Rattle.rp_types.specs.Table.{types}
+use Rattle.rp_types.specs.Types.{entry_of, by_guid, by_name, is_called, padded}
 use Rattle.rp_types.specs.Guids.{guid_text}
 use Rattle.uuid.specs.Text.{digit_place, hex_digit, hyphen, is_hyphen_place, lower, nibble}
 use Rattle.uuid.proofs.TextLemmas.{by_index_at}
 use Rattle.rp_types.proofs.Finding.{find_passes}
-use Rattle.rp_types.proofs.Finding.{find_passes}
+use Rattle.rp_types.proofs.Listed.{coded, of_types}
 
 -- whether an option is this type
 is_kind : Option Guid → Guid → Bool
@@ -36,25 +37,37 @@ unfolding is_kind
 is_kind-Some None kind h = absurd (cc)
 is_kind-Some (Some other) kind h = ap Some (same_guid other kind h)
 
--- a type's name
-names_back : (arch : Arch) → list_all (λ entry. is_kind (by_name entry.0 arch) entry.1.kind) types ≡ true
-unfolding types by_name is_kind
-names_back X86_64 = refl
-names_back Arm64 = refl
+-- ---- what is computed of the table
+Entry : Type 0
+Entry = List ℕ × PartitionType
 
--- a type's designator's name
+-- a type's name finds it
+names_back : (arch : Arch) → list_all (λ entry. is_kind (by_name entry.0 arch) entry.1.kind) types ≡ true
+unfolding by_name is_kind Entry
+names_back arch = of_types
+    (λ (all : List Entry). list_all (λ entry. is_kind (option_map (λ e. e.1.kind) (find (is_called entry.0 arch) all)) entry.1.kind) all ≡ true)
+    (by_arch arch) where
+      by_arch : (arch : Arch) → list_all (λ entry. is_kind (option_map (λ e. e.1.kind) (find (is_called entry.0 arch) coded)) entry.1.kind) coded ≡ true
+      by_arch X86_64 = refl
+      by_arch Arm64 = refl
+
+-- a type's designator's name finds it
 designators_back : (arch : Arch) → list_all (λ entry. option_map_or (λ d. is_kind (by_name (designator_name d) arch) entry.1.kind) (designator_under arch entry.1) true) types ≡ true
-unfolding types by_name is_kind
-designators_back X86_64 = refl
-designators_back Arm64 = refl
+unfolding by_name is_kind Entry
+designators_back arch = of_types
+    (λ (all : List Entry). list_all (λ entry. option_map_or (λ d. is_kind (option_map (λ e. e.1.kind) (find (is_called (designator_name d) arch) all)) entry.1.kind) (designator_under arch entry.1) true) all ≡ true)
+    (by_arch arch) where
+      by_arch : (arch : Arch) → list_all (λ entry. option_map_or (λ d. is_kind (option_map (λ e. e.1.kind) (find (is_called (designator_name d) arch) coded)) entry.1.kind) (designator_under arch entry.1) true) coded ≡ true
+      by_arch X86_64 = refl
+      by_arch Arm64 = refl
 
 names_fit : list_all (λ entry. nat_le (length entry.0) 36) types ≡ true
 unfolding types
 names_fit = refl
 
 kinds_used : list_all (λ entry. not (bytes_eq entry.1.kind.0 (replicate 16 0))) types ≡ true
-unfolding types
-kinds_used = refl
+unfolding Entry
+kinds_used = of_types (λ (all : List Entry). list_all (λ entry. not (bytes_eq entry.1.kind.0 (replicate 16 0))) all ≡ true) refl
 
 names_begin : list_all (λ entry. nat_le 1 (get_or entry.0 0 0)) types ≡ true
 unfolding types

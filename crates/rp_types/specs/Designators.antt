@@ -33,3 +33,8 @@ designator_name UsrVerity = codes "usr-verity"
 designator_name UsrVeritySig = codes "usr-verity-sig"
 designator_name Tmp = codes "tmp"
 designator_name Var = codes "var"
+
+-- an architecture's name in names of types
+abbrev pub arch_name : Arch → List ℕ
+arch_name X86_64 = codes "x86-64"
+arch_name Arm64 = codes "arm64"

@@ -1,4 +1,5 @@
 pub mod Designators
 pub mod Guids
 pub mod Rules
+pub mod Table
 pub mod Types

@@ -1,5 +1,5 @@
 -- Partition types by name (Discoverable Partitions Specification).
-use Rattle.std.specs.Prelude.{List, ◌++◌, ℕ, ◌-◌, Bool, false, ◌||◌, Option, option_map, option_and_then, find, map, length, replicate, unwrap_or}
+use Rattle.std.specs.Prelude.{List, ◌++◌, ℕ, ◌-◌, Bool, false, ◌||◌, Option, option_map, option_and_then, find, length, replicate, unwrap_or}
 use Rattle.std.specs.Option.{option_map_or}
 use Rattle.std.specs.Borrow.{Bor}
 use Rattle.std.specs.Str.{bytes_eq}
@@ -9,15 +9,11 @@ use Rattle.rp_types.specs.Designators.{designator_name, designator_under}
 use Rattle.rp_types.specs.declared.arch.Arch.{Arch}
 use Rattle.rp_types.specs.declared.arch.Designator.{Designator}
 use Rattle.rp_types.specs.declared.table.PartitionType.{PartitionType}
-use Rattle.rp_types.specs.declared.table.TheConstants.{TYPES}
+use Rattle.rp_types.specs.Table.{types}
 
 -- a name and a type, where the name was lent
 abbrev pub shown : Bor (List ℕ) × PartitionType → List ℕ × PartitionType
 shown entry = (entry.0.now, entry.1)
-
--- the types that have names, each with its name: the table of src/table.rt
-unfoldable pub types : List (List ℕ × PartitionType)
-types = map (λ entry. (entry.0.now, entry.1)) TYPES
 
 -- whether an entry is called this: by its own name, or by its designator's
 abbrev pub is_called : List ℕ → Arch → List ℕ × PartitionType → Bool

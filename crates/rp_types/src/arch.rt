@@ -28,8 +28,8 @@ pub enum Designator {
 impl Designator {
     ghost use Rattle.rp_types.specs.Designators.{designator_name};
 
-    /// The name in an image policy.
-    pub(crate) fn name(self) -> &'static str
+    /// The name in an image policy (systemd.image-policy(7)), which `by_name` takes too.
+    pub fn name(self) -> &'static str
         ensures { result.now ≡ designator_name self }
     {
         match self {

@@ -1,8 +1,9 @@
 ghost use Rattle.std.specs.Prelude.{◌≡◌, map};
 ghost use Rattle.rp_types.specs.Rules.{IsTable};
-ghost use Rattle.rp_types.specs.Types.{shown, types};
+ghost use Rattle.rp_types.specs.Table.{types};
+ghost use Rattle.rp_types.specs.Types.{shown};
 
-use crate::{Arch, Designator};
+use crate::{Arch, Designator, GROW_FILE_SYSTEM, NO_AUTO, READ_ONLY};
 use rp_base::Guid;
 
 /// A partition type.
@@ -30,21 +31,13 @@ impl PartitionType {
     }
 }
 
-/// Not to be found by itself (Discoverable Partitions Specification, "no-auto").
-const NO_AUTO: u64 = 1 << 63;
-
-/// To be mounted read-only (the same, "read-only").
-const READ_ONLY: u64 = 1 << 60;
-
-/// To be grown with its partition when mounted (the same, "grow-file-system").
-const GROW_FILE_SYSTEM: u64 = 1 << 59;
-
 const NO_BITS: u64 = 0;
 
 const ALL_BITS: u64 = NO_AUTO | READ_ONLY | GROW_FILE_SYSTEM;
 
 /// By name, the types of the Discoverable Partitions Specification for x86-64 and arm64, the EFI system partition (UEFI
-/// 2.10, 5.3.3) among them. Which type may have which bits is this program's own rule.
+/// 2.10, 5.3.3) among them. Which type may have which bits is this program's own rule. The same list with the GUIDs as
+/// texts stands in specs/Table.antt, and a type is one row in each.
 #[rattlefmt::skip]
 pub(crate) static TYPES: [(&str, PartitionType); 20] = [
     // c12a7328-f81f-11d2-ba4b-00a0c93ec93b

@@ -1,7 +1,7 @@
 -- Specifiers in a text, one after another.
 use Rattle.std.proofs.Common.{◌≡◌, ◌≢◌, ℕ, suc, ◌<◌, List, [], ◌∷◌, ◌++◌, length, get_or, refl, ap, sym, ◌∙◌, arith, ne_eqb, Option, Some, None}
 use Rattle.std.proofs.lemmas.List.{append_assoc, append-nil}
-use Rattle.rp_types.specs.Rules.{arch_name}
+use Rattle.rp_types.specs.Designators.{arch_name}
 use Rattle.rp_types.specs.declared.arch.Arch.{Arch}
 use Rattle.rp_values.specs.Texts.{expanded, joined}
 

@@ -9,22 +9,22 @@ use Rattle.std.specs.Char.Escape.{encode_utf16}
 use Rattle.std.proofs.lemmas.Str.{encodes-chars}
 use Rattle.std.proofs.lemmas.Iterator.{YieldsList}
 use Rattle.std.proofs.lemmas.Iterator.Splits.{YieldsList-from_shown_while}
-use Rattle.rp_gpt.specs.Name.{name_of, units_of}
-use Rattle.rp_gpt.proofs.Units.{units_left, units_left-more, units_left-none}
-use Rattle.rp_types.specs.Rules.{arch_name}
+use Rattle.rp_base.specs.Name.{name_of, units_of}
+use Rattle.rp_base.proofs.Units.{units_left, units_left-more, units_left-none}
+use Rattle.rp_types.specs.Designators.{arch_name}
 use Rattle.rp_types.specs.declared.arch.Arch.{Arch}
 use Rattle.rp_types.specs.declared.arch.Arch.TheVariants.{X86_64, Arm64}
 use Rattle.rp_values.specs.declared.label.LabelFault.{LabelFault}
 use Rattle.rp_values.specs.declared.label.LabelFault.TheVariants.{BadLabel, TooLong}
-use Rattle.rp_values.specs.Texts.{expanded, joined, specified, label_of, label_units}
+use Rattle.rp_values.specs.Texts.{expanded, joined, specified, label_of_text, label_units}
 
-pub label_of-none : (arch : Arch) (text : List ℕ) → None ≡ expanded arch text → Err BadLabel ≡ label_of arch text
-unfolding label_of
-label_of-none arch text e = rw (← e) refl
+pub label_of_text-none : (arch : Arch) (text : List ℕ) → None ≡ expanded arch text → Err BadLabel ≡ label_of_text arch text
+unfolding label_of_text
+label_of_text-none arch text e = rw (← e) refl
 
-pub label_of-some : (arch : Arch) (text whole : List ℕ) → Some whole ≡ expanded arch text → label_units whole ≡ label_of arch text
-unfolding label_of
-label_of-some arch text whole e = rw (← e) refl
+pub label_of_text-some : (arch : Arch) (text whole : List ℕ) → Some whole ≡ expanded arch text → label_units whole ≡ label_of_text arch text
+unfolding label_of_text
+label_of_text-some arch text whole e = rw (← e) refl
 
 -- ---- the units that `encode_utf16` yields
 pub YieldsList-from_utf16 : (s : EncodeUtf16) → IsUtf8 (encode_utf16_rest s) → YieldsList encode_utf16_steps (λ unit. unit) s (units_left s)

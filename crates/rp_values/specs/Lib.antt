@@ -1,3 +1,4 @@
+pub mod Kinds
 pub mod Numbers
 pub mod Switches
 pub mod Texts

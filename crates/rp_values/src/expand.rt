@@ -1,6 +1,6 @@
 ghost use Rattle.std.specs.Prelude.{◌≡◌, ◌≤◌, ◌∷◌, None, Some, IfOk, IfSome, MatchOption, length, string_bytes};
 ghost use Rattle.std.specs.Option.{option_map};
-ghost use Rattle.rp_types.specs.Rules.{arch_name};
+ghost use Rattle.rp_types.specs.Designators.{arch_name};
 ghost use Rattle.rp_values.specs.Texts.{expanded, joined};
 
 use rp_base::Memory;

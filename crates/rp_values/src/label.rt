@@ -1,12 +1,11 @@
 ghost use Rattle.std.specs.Prelude.{◌≡◌, ◌≢◌, [], IfOk, length, slice_index};
 ghost use Rattle.rp_base.specs.Answers.{Gives};
-ghost use Rattle.rp_gpt.specs.Name.{units_of};
-ghost use Rattle.rp_values.specs.Texts.{label_of, label_units};
+ghost use Rattle.rp_base.specs.Name.{units_of};
+ghost use Rattle.rp_values.specs.Texts.{label_of_text, label_units};
 ghost use Rattle.rp_values.specs.declared.label.LabelFault.TheVariants.{Memory as no_memory};
 
 use crate::expand::expanded;
-use rp_base::Memory;
-use rp_gpt::name_units;
+use rp_base::{Memory, name_units};
 use rp_types::Arch;
 use std::alloc::Global;
 use thiserror::Error;
@@ -38,7 +37,7 @@ impl From<Memory> for LabelFault {
 /// A label as the 36 units of UTF-16 of a partition's name, zeros behind the text. `%%` is `%`, and `%a` the architecture.
 /// Another `%` is `BadLabel` before all else; then more than 36 units are `TooLong`, and then a U+0000 is `BadLabel`.
 pub fn read_label(alloc: Global, text: &str, arch: Arch) -> Result<[u16; UNITS], LabelFault>
-    ensures label { Gives LabelFault.Memory (label_of arch text.now) result }
+    ensures label { Gives LabelFault.Memory (label_of_text arch text.now) result }
     ensures not_empty { text.now ≢ [] → IfOk result (λ units. slice_index units 0 ≢ 0) }
 {
     let Some(whole) = expanded(alloc, text, arch)? else {

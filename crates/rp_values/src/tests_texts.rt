@@ -1,5 +1,5 @@
 use crate::expand::expanded;
-use crate::{LabelFault, read_label, read_path};
+use crate::{LabelFault, read_id, read_kind, read_label, read_path, read_split_name};
 use rp_types::Arch;
 use std::alloc::AllocGlobal;
 use std::test::Fail;
@@ -140,4 +140,57 @@ fn paths(rt: HostRuntime) -> Result<(), Fail> {
     let path = read_path(rt.alloc(), "/boot/%a/100%%", Arch::Arm64)?.ok_or("no path")?;
     assert_eq!(rt; path.as_str(), "/boot/arm64/100%");
     Ok(())
+}
+
+// How many letters, the text behind them, and whether that names a split file; `-` is unset.
+#[rattlefmt::skip]
+const SPLIT_NAMES: [(u16, &str, Option<bool>); 13] = [
+    (1, "", Some(true)),
+    (128, "", Some(true)),
+    (129, "", None),
+    (121, ".%a", Some(true)),
+    (122, ".%a", None),
+    (0, "-", Some(false)),
+    (0, "--", Some(true)),
+    (0, ".", None),
+    (0, "..", None),
+    (0, "...", Some(true)),
+    (1, "/", None),
+    (1, "\0", None),
+    (1, "%x", None),
+];
+
+#[test]
+fn split_names(rt: HostRuntime) -> Result<(), Fail> {
+    for (count, back, named) in SPLIT_NAMES {
+        let text = letters(&rt, count, back)?;
+        match read_split_name(rt.alloc(), text.as_str(), Arch::X86_64) {
+            Ok(name) => assert_eq!(rt;
+                Some(name.is_some()),
+                named,
+                "at {count} letters and {back}"
+            ),
+            Err(_) => assert_eq!(rt; named, None, "at {count} letters and {back}"),
+        }
+    }
+    let name = read_split_name(rt.alloc(), "usr-%a.raw", Arch::Arm64)?.ok_or("no name")?;
+    assert_eq!(rt; name.as_str(), "usr-arm64.raw");
+    Ok(())
+}
+
+#[test]
+fn types_and_identifiers(rt: HostRuntime) {
+    let esp = read_kind("C12A7328F81F11D2BA4B00A0C93EC93B", Arch::X86_64);
+    assert!(rt; esp.is_some());
+    assert_eq!(rt; read_kind("esp", Arch::Arm64), esp);
+    assert_eq!(rt;
+        read_kind("root", Arch::Arm64),
+        read_kind("root-arm64", Arch::X86_64)
+    );
+    assert_eq!(rt;
+        read_kind("00000000-0000-0000-0000-000000000000", Arch::X86_64),
+        None
+    );
+    assert_eq!(rt; read_id("c12a7328-f81f-11d2-ba4b-00a0c93ec93b"), esp);
+    assert_eq!(rt; read_id("esp"), None);
 }

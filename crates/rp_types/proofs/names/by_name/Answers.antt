@@ -3,7 +3,8 @@ use Rattle.std.specs.Prelude.{find, map, option_map}
 use Rattle.std.specs.Borrow.{Bor}
 use Rattle.rp_types.specs.declared.arch.Arch.{Arch}
 use Rattle.rp_types.specs.declared.table.PartitionType.{PartitionType}
-use Rattle.rp_types.specs.Types.{types, by_name, is_called, shown}
+use Rattle.rp_types.specs.Table.{types}
+use Rattle.rp_types.specs.Types.{by_name, is_called, shown}
 use Rattle.rp_types.proofs.Finding.{find_more, find_here, find-map}
 use Rattle.rp_types.proofs.TypeLemmas.{by_name-used}
 use Rattle.rp_types.proofs.names.by_name.Goals as goal

@@ -4,7 +4,8 @@ use Rattle.std.specs.Borrow.{Bor}
 use Rattle.std.specs.Str.{bytes_eq}
 use Rattle.rp_base.specs.declared.guid.Guid.{Guid}
 use Rattle.rp_types.specs.declared.table.PartitionType.{PartitionType}
-use Rattle.rp_types.specs.Types.{types, entry_of, shown}
+use Rattle.rp_types.specs.Table.{types}
+use Rattle.rp_types.specs.Types.{entry_of, shown}
 use Rattle.rp_types.proofs.Finding.{find_more, find_here, find-map}
 use Rattle.rp_types.proofs.names.entry_of.Goals as goal
 

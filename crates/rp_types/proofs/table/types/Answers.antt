@@ -1,11 +1,8 @@
-use Rattle.std.proofs.Common.{refl}
-use Rattle.rp_types.specs.Types.{types}
+use Rattle.rp_types.proofs.Listed.{types_are, types-IsTable}
 use Rattle.rp_types.proofs.table.types.Goals as goal
 
 pub returns-clause-entries : goal.returns-clause-entries
-unfolding types
-returns-clause-entries c = refl
+returns-clause-entries c = types_are
 
 pub returns-clause-rule : goal.returns-clause-rule
-unfolding types
-returns-clause-rule c = record { named = refl; bits_ruled = refl; names_once = refl; kinds_once = refl; used = refl }
+returns-clause-rule c = types-IsTable

@@ -1,6 +1,6 @@
 use Rattle.std.proofs.Common.{length, ap, sym, subst, ◌∙◌, IsUtf8}
 use Rattle.std.proofs.lemmas.Iterator.Consumers.{count_from_yields_List}
-use Rattle.rp_gpt.proofs.Units.{units_left-all}
+use Rattle.rp_base.proofs.Units.{units_left-all}
 use Rattle.rp_values.proofs.LabelLemmas.{YieldsList-from_utf16}
 use Rattle.rp_values.proofs.label.units_in.Goals as goal
 
