@@ -5,7 +5,7 @@ use Rattle.rp_disk.specs.declared.call.Call.TheVariants.{Sync}
 use Rattle.rp_disk.specs.Calls.{done, all_done, is_sync, has_sync, settled, pending}
 use Rattle.rp_disk.specs.Stops.{Each, Agrees, Leaves, IsFrontOf}
 use Rattle.rp_disk.specs.Blocks.{flat, EachBlock, Unsynced, blocks_done, Phases}
-use Rattle.rp_disk.specs.Agreeing.{agrees-more}
+use Rattle.rp_disk.proofs.Agreeing.{agrees-more}
 use Rattle.rp_disk.proofs.Pushing.{or_true}
 
 pub Each-append : (P : Call → Type 0) (xs ys : List Call) → Each P xs → Each P ys → Each P (xs ++ ys)

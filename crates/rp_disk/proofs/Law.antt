@@ -7,7 +7,7 @@ use Rattle.rp_disk.specs.Calls.{done, all_done, is_sync, settled, pending}
 use Rattle.rp_disk.specs.Stops.{Agrees, Leaves, IsFrontOf}
 use Rattle.rp_disk.specs.History.{History, Start, Did, Failed, shown, moment, settled_bytes, pending_calls, and_failed, made_since, MayLeave, LeftNow, LeftSince, IsSettled, all_did}
 use Rattle.rp_disk.specs.Runs.{Went}
-use Rattle.rp_disk.specs.Agreeing.{agrees-none}
+use Rattle.rp_disk.proofs.Agreeing.{agrees-none}
 use Rattle.rp_disk.proofs.Pushing.{all_done-more, settled-sync, settled-other, pending-sync, pending-other}
 
 -- where nothing is pending a stop leaves the bytes shown and nothing else

@@ -1,4 +1,6 @@
 mod KeptLemmas
+mod LogWalk
+pub mod Agreeing
 pub mod Pushing
 pub mod Blocks
 pub mod Ranges

@@ -3,7 +3,7 @@ use Rattle.std.proofs.Common.{ℕ, List, [], ◌∷◌, ◌≡◌, ◌⊎◌, �
 use Rattle.std.proofs.lemmas.List.{get_or-take, get_or-drop, ext_get_or}
 use Rattle.rp_disk.specs.declared.call.Call.TheVariants.{Write, Sync, SetLen}
 use Rattle.rp_disk.specs.Stops.{Agrees}
-use Rattle.rp_disk.specs.Agreeing.{agrees-same}
+use Rattle.rp_disk.proofs.Agreeing.{agrees-same}
 
 -- images that agree below a place, or from a place on
 

@@ -1,15 +1,14 @@
 -- Bytes and ranges of an image under calls.
 use Rattle.std.proofs.Common.{◌≡◌, ℕ, ◌+◌, ◌-◌, ◌<◌, ◌≤◌, List, [], ◌∷◌, ◌++◌, length, take, drop, get_or, refl, sym, ap, ◌∙◌, subst, arith, inl, inr, true, length-take, length-drop}
 use Rattle.std.proofs.lemmas.List.{get_or-take, get_or-drop, ext_get_or, take_at, drop_at, length-take-le}
+use Rattle.rp_base.specs.Image.{bytes_at}
 use Rattle.rp_disk.specs.declared.call.Call.{Call}
 use Rattle.rp_disk.specs.declared.call.Call.TheVariants.{Write, Sync, SetLen}
-use Rattle.rp_disk.specs.Calls.{overwritten, done, all_done}
+use Rattle.rp_disk.specs.Calls.{overwritten, done, all_done, IsWithin}
 use Rattle.rp_disk.specs.Stops.{Each, SetsLength, Spares, Agrees}
 use Rattle.rp_disk.specs.Blocks.{EachBlock, blocks_done, Phases}
-use Rattle.rp_disk.specs.Ranges.{range, Misses, Apart, Inside}
-use Rattle.rp_disk.specs.Kept.{fits}
-use Rattle.rp_disk.specs.Agreeing.{length-overwritten, get_or-overwritten, agrees-same, agrees-then, agrees-done}
-use Rattle.rp_disk.proofs.Law.{le_yes}
+use Rattle.rp_disk.specs.Ranges.{Misses, Apart, Inside}
+use Rattle.rp_disk.proofs.Agreeing.{length-overwritten, get_or-overwritten, agrees-same, agrees-then, agrees-done}
 use Rattle.rp_disk.proofs.Blocks.{Each-imp}
 
 -- calls that each miss a byte spare it
@@ -22,27 +21,36 @@ spares k (SetLen len ∷ calls) misses = (inl misses.0, spares k calls misses.1)
 pub kept-missed : (image : List ℕ) (later : List Call) (new : List ℕ) (k : ℕ) → Agrees image later new → k < length image → k < length new → Each (Misses k) later → get_or new k 0 ≡ get_or image k 0
 kept-missed image later new k agrees lt lt' misses = agrees.kept k lt lt' (spares k later misses)
 
-pub range-overwritten : (at : ℕ) (bytes image : List ℕ) → at + length bytes ≤ length image → range at (length bytes) (overwritten image at bytes) ≡ bytes
-range-overwritten at bytes image fits =
-    ap (λ (l : List ℕ). take (length bytes) l) (drop_at (take at image) (bytes ++ drop (at + length bytes) image) at (length-take-le at image (omega arith)))
+-- a range as what is taken behind what is dropped
+pub bytes_at-take : (image : List ℕ) (at n : ℕ) → bytes_at image at n ≡ take n (drop at image)
+bytes_at-take image at n = let size : at + n - at ≡ n = omega arith in ap (λ (i : ℕ). take i (drop at image)) size
+
+pub bytes_at-overwritten : (at : ℕ) (bytes image : List ℕ) → at + length bytes ≤ length image → bytes_at (overwritten image at bytes) at (length bytes) ≡ bytes
+bytes_at-overwritten at bytes image fits =
+    bytes_at-take (overwritten image at bytes) at (length bytes)
+    ∙ ap (λ (l : List ℕ). take (length bytes) l) (drop_at (take at image) (bytes ++ drop (at + length bytes) image) at (length-take-le at image (omega arith)))
     ∙ take_at bytes (drop (at + length bytes) image) (length bytes) refl
 
+pub length-bytes_at : (image : List ℕ) (at n : ℕ) → at + n ≤ length image → length (bytes_at image at n) ≡ n
+length-bytes_at image at n fits = ap length (bytes_at-take image at n) ∙ (let is = length-take n (drop at image) in let len = length-drop at image in omega arith)
+
+get_or-bytes_at : (image : List ℕ) (at n k : ℕ) → k < n → get_or (bytes_at image at n) k 0 ≡ get_or image (at + k) 0
+get_or-bytes_at image at n k below = ap (λ (l : List ℕ). get_or l k 0) (bytes_at-take image at n) ∙ get_or-take n (drop at image) k 0 below ∙ get_or-drop at image k 0
+
 -- two images with the same bytes at the places of a range
-pub same_range : (at n : ℕ) (xs ys : List ℕ) → at + n ≤ length xs → at + n ≤ length ys
-    → ((k : ℕ) → at ≤ k → k < at + n → get_or xs k 0 ≡ get_or ys k 0) → range at n xs ≡ range at n ys
-same_range at n xs ys fits fits' same =
-    ext_get_or 0 (range at n xs) (range at n ys)
-    (omega (arith, length-take n (drop at xs), length-take n (drop at ys), length-drop at xs, length-drop at ys))
+pub same_bytes : (at n : ℕ) (xs ys : List ℕ) → at + n ≤ length xs → at + n ≤ length ys
+    → ((k : ℕ) → at ≤ k → k < at + n → get_or xs k 0 ≡ get_or ys k 0) → bytes_at xs at n ≡ bytes_at ys at n
+same_bytes at n xs ys fits fits' same =
+    ext_get_or 0 (bytes_at xs at n) (bytes_at ys at n) (length-bytes_at xs at n fits ∙ sym (length-bytes_at ys at n fits'))
     (λ i lt.
-    let below : i < n = omega (arith, length-take n (drop at xs)) in
-    get_or-take n (drop at xs) i 0 below ∙ get_or-drop at xs i 0 ∙ same (at + i) (omega arith) (omega arith)
-    ∙ sym (get_or-drop at ys i 0) ∙ sym (get_or-take n (drop at ys) i 0 below))
+    let below : i < n = omega (arith, length-bytes_at xs at n fits) in
+    get_or-bytes_at xs at n i below ∙ same (at + i) (omega arith) (omega arith) ∙ sym (get_or-bytes_at ys at n i below))
 
 -- and back
-pub range_byte : (at n : ℕ) (xs ys : List ℕ) → range at n xs ≡ range at n ys → (k : ℕ) → at ≤ k → k < at + n → get_or xs k 0 ≡ get_or ys k 0
-range_byte at n xs ys same k low high =
-    let one : (l : List ℕ) → get_or (range at n l) (k - at) 0 ≡ get_or l k 0 =
-    λ l. get_or-take n (drop at l) (k - at) 0 (omega arith) ∙ get_or-drop at l (k - at) 0 ∙ ap (λ (i : ℕ). get_or l i 0) (omega arith) in
+pub byte_of : (at n : ℕ) (xs ys : List ℕ) → bytes_at xs at n ≡ bytes_at ys at n → (k : ℕ) → at ≤ k → k < at + n → get_or xs k 0 ≡ get_or ys k 0
+byte_of at n xs ys same k low high =
+    let one : (l : List ℕ) → get_or (bytes_at l at n) (k - at) 0 ≡ get_or l k 0 =
+    λ l. get_or-bytes_at l at n (k - at) (omega arith) ∙ ap (λ (i : ℕ). get_or l i 0) (omega arith) in
     sym (one xs) ∙ ap (λ (l : List ℕ). get_or l (k - at) 0) same ∙ one ys
 
 pub misses-apart : (at n : ℕ) (call : Call) (k : ℕ) → Apart at n call → at ≤ k → k < at + n → Misses k call
@@ -66,26 +74,26 @@ length-all_done (call ∷ calls) image n long each =
     length-all_done calls (done image call) n (length-done call image (inside_of call image n long each.0) ∙ long) each.1
 
 -- a call inside an image leaves a range apart from it
-pub range-done : (at n : ℕ) (call : Call) (image : List ℕ) → at + n ≤ length image → Inside (length image) call → Apart at n call → range at n (done image call) ≡ range at n image
-range-done at n (Write from bytes) image fits inside apart =
-    same_range at n (overwritten image from bytes) image (omega (arith, length-overwritten image from bytes inside)) fits
+pub bytes_at-done : (at n : ℕ) (call : Call) (image : List ℕ) → at + n ≤ length image → Inside (length image) call → Apart at n call → bytes_at (done image call) at n ≡ bytes_at image at n
+bytes_at-done at n (Write from bytes) image fits inside apart =
+    same_bytes at n (overwritten image from bytes) image (omega (arith, length-overwritten image from bytes inside)) fits
     (λ k low high. get_or-overwritten image from bytes k inside (misses-apart at n (Write from bytes) k apart low high))
-range-done at n Sync image fits inside apart = refl
-range-done at n (SetLen m) image fits inside apart = absurd inside
+bytes_at-done at n Sync image fits inside apart = refl
+bytes_at-done at n (SetLen m) image fits inside apart = absurd inside
 
-pub range-all_done : (at n : ℕ) (calls : List Call) (image : List ℕ) (m : ℕ) → length image ≡ m → at + n ≤ m → Each (Inside m) calls → Each (Apart at n) calls
-    → range at n (all_done image calls) ≡ range at n image
-range-all_done at n [] image m long fits inside apart = refl
-range-all_done at n (call ∷ calls) image m long fits inside apart =
+pub bytes_at-all_done : (at n : ℕ) (calls : List Call) (image : List ℕ) (m : ℕ) → length image ≡ m → at + n ≤ m → Each (Inside m) calls → Each (Apart at n) calls
+    → bytes_at (all_done image calls) at n ≡ bytes_at image at n
+bytes_at-all_done at n [] image m long fits inside apart = refl
+bytes_at-all_done at n (call ∷ calls) image m long fits inside apart =
     let here = inside_of call image m long inside.0 in
-    range-all_done at n calls (done image call) m (length-done call image here ∙ long) fits inside.1 apart.1
-    ∙ range-done at n call image (omega arith) here apart.0
+    bytes_at-all_done at n calls (done image call) m (length-done call image here ∙ long) fits inside.1 apart.1
+    ∙ bytes_at-done at n call image (omega arith) here apart.0
 
 -- what a stop may leave in a range that is apart from the later calls
-pub range-agrees : (at n : ℕ) (image : List ℕ) (later : List Call) (new : List ℕ) → Agrees image later new → at + n ≤ length image → at + n ≤ length new
-    → Each (Apart at n) later → range at n new ≡ range at n image
-range-agrees at n image later new agrees fits fits' apart =
-    same_range at n new image fits' fits
+pub bytes_at-agrees : (at n : ℕ) (image : List ℕ) (later : List Call) (new : List ℕ) → Agrees image later new → at + n ≤ length image → at + n ≤ length new
+    → Each (Apart at n) later → bytes_at new at n ≡ bytes_at image at n
+bytes_at-agrees at n image later new agrees fits fits' apart =
+    same_bytes at n new image fits' fits
     (λ k low high. kept-missed image later new k agrees (omega arith) (omega arith) (Each-imp (Apart at n) (Misses k) (λ c a. misses-apart at n c k a low high) later apart))
 
 -- with no length change among the later calls the length stays
@@ -105,25 +113,25 @@ phases-length n (block ∷ blocks) image new long inside (inl agrees) = length-a
 phases-length n (block ∷ blocks) image new long inside (inr later) = phases-length n blocks (all_done image block) new (length-all_done block image n long inside.0) inside.1 later
 
 pub phases-range : (at m n : ℕ) (blocks : List (List Call)) (image new : List ℕ) → length image ≡ n → at + m ≤ n
-    → EachBlock (Inside n) blocks → EachBlock (Apart at m) blocks → Phases image blocks new → range at m new ≡ range at m image
+    → EachBlock (Inside n) blocks → EachBlock (Apart at m) blocks → Phases image blocks new → bytes_at new at m ≡ bytes_at image at m
 phases-range at m n [] image new long fits inside apart agrees =
-    range-agrees at m image [] new agrees (omega arith) (omega (arith, length-agrees n image [] new agrees tt)) tt
+    bytes_at-agrees at m image [] new agrees (omega arith) (omega (arith, length-agrees n image [] new agrees tt)) tt
 phases-range at m n (block ∷ blocks) image new long fits inside apart (inl agrees) =
-    range-agrees at m image block new agrees (omega arith) (omega (arith, length-agrees n image block new agrees inside.0)) apart.0
+    bytes_at-agrees at m image block new agrees (omega arith) (omega (arith, length-agrees n image block new agrees inside.0)) apart.0
 phases-range at m n (block ∷ blocks) image new long fits inside apart (inr later) =
     phases-range at m n blocks (all_done image block) new (length-all_done block image n long inside.0) fits inside.1 apart.1 later
-    ∙ range-all_done at m block image n long fits inside.0 apart.0
+    ∙ bytes_at-all_done at m block image n long fits inside.0 apart.0
 
 pub length-blocks_done : (n : ℕ) (blocks : List (List Call)) (image : List ℕ) → length image ≡ n → EachBlock (Inside n) blocks → length (blocks_done image blocks) ≡ n
 length-blocks_done n [] image long inside = long
 length-blocks_done n (block ∷ blocks) image long inside = length-blocks_done n blocks (all_done image block) (length-all_done block image n long inside.0) inside.1
 
-pub range-blocks_done : (at m n : ℕ) (blocks : List (List Call)) (image : List ℕ) → length image ≡ n → at + m ≤ n → EachBlock (Inside n) blocks → EachBlock (Apart at m) blocks
-    → range at m (blocks_done image blocks) ≡ range at m image
-range-blocks_done at m n [] image long fits inside apart = refl
-range-blocks_done at m n (block ∷ blocks) image long fits inside apart =
-    range-blocks_done at m n blocks (all_done image block) (length-all_done block image n long inside.0) fits inside.1 apart.1
-    ∙ range-all_done at m block image n long fits inside.0 apart.0
+pub bytes_at-blocks_done : (at m n : ℕ) (blocks : List (List Call)) (image : List ℕ) → length image ≡ n → at + m ≤ n → EachBlock (Inside n) blocks → EachBlock (Apart at m) blocks
+    → bytes_at (blocks_done image blocks) at m ≡ bytes_at image at m
+bytes_at-blocks_done at m n [] image long fits inside apart = refl
+bytes_at-blocks_done at m n (block ∷ blocks) image long fits inside apart =
+    bytes_at-blocks_done at m n blocks (all_done image block) (length-all_done block image n long inside.0) fits inside.1 apart.1
+    ∙ bytes_at-all_done at m block image n long fits inside.0 apart.0
 
 -- calls inside an image that were done whole are one of the things that a stop may leave of them
 pub agrees-inside : (n : ℕ) (calls : List Call) (image : List ℕ) → length image ≡ n → Each (Inside n) calls → Agrees image calls (all_done image calls)
@@ -131,10 +139,10 @@ agrees-inside n [] image long inside = agrees-same image []
 agrees-inside n (call ∷ calls) image long inside =
     let here = inside_of call image n long inside.0 in
     agrees-then image (done image call) (all_done (done image call) calls) (call ∷ []) calls
-    (agrees-done image call (fits_inside call image here))
+    (agrees-done image call (within call image here))
     (agrees-inside n calls (done image call) (length-done call image here ∙ long) inside.1)
   where
-    fits_inside : (call : Call) (image : List ℕ) → Inside (length image) call → fits image call ≡ true
-    fits_inside (Write at bytes) image here = le_yes (at + length bytes) (length image) here
-    fits_inside Sync image here = refl
-    fits_inside (SetLen len) image here = refl
+    within : (call : Call) (image : List ℕ) → Inside (length image) call → IsWithin (length image) call
+    within (Write at bytes) image here = here
+    within Sync image here = tt
+    within (SetLen len) image here = tt

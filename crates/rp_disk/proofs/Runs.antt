@@ -1,128 +1,33 @@
--- How the proof of a function goes on that makes calls on a disk, one after another.
-use Rattle.std.proofs.Common.{List, [], ◌∷◌, ◌++◌, ◌≡◌, Option, Some, None, Result, Ok, Err, IfSome, OnOk, OnErr, refl, sym, ◌∙◌, ap, subst, inl, inr, ⊎_elim, append_assoc}
+-- From a function's run on a disk to what a stop at any moment of it may leave.
+use Rattle.std.proofs.Common.{ℕ, ◌<◌, ◌+◌, List, [], ◌∷◌, ◌++◌, ◌≡◌, ◌⊎◌, Option, Some, None, Result, Ok, Err, OnOk, OnErr, length, refl, sym, ◌∙◌, ap, subst, inl, inr, append_assoc, append-nil, length-append, arith}
 use Rattle.rp_disk.specs.declared.call.Call.{Call}
 use Rattle.rp_disk.specs.declared.call.Call.TheVariants.{Write, Sync, SetLen}
-use Rattle.rp_disk.specs.Calls.{done, all_done}
+use Rattle.rp_disk.specs.Calls.{all_done}
 use Rattle.rp_disk.specs.Stops.{IsFrontOf}
-use Rattle.rp_disk.specs.History.{History, Did, Failed, shown, IsSettled, FailedAt, did, all_did, and_failed}
-use Rattle.rp_disk.specs.Runs.{Went, FailedIn, BrokenOff, EndedIn, AtAnyMoment, AtAnyMomentBehindSync}
-use Rattle.rp_disk.proofs.Law.{law, synced, front_whole, front_of_front}
+use Rattle.rp_disk.specs.History.{History, Start, Did, Failed, shown, IsSettled, all_did, and_failed}
+use Rattle.rp_disk.specs.Made.{Made, Done, Broke, dones, count_done, after_made, history_of}
+use Rattle.rp_disk.specs.Runs.{AreFirst, MadeFirst, BrokeOff, Runs, Went, AtAnyMoment, AtAnyMomentBehindSync, EndsSettled}
+use Rattle.rp_disk.proofs.Law.{law, synced, front_of_front}
 use Rattle.rp_disk.proofs.Opened.{law_behind_sync}
 
--- where the disk told its history at first, it now tells that history and these calls, all done whole
-abbrev pub SoFar : Option History → List Call → Option History → Type 0
-SoFar first made now = IfSome first (λ start. now ≡ Some (all_did start made))
+-- histories and lists of calls
 
-pub begun : (first : Option History) → SoFar first [] first
-begun None = tt
-begun (Some start) = refl
+pub after_made-append : (history : History) (made more : List Made) → after_made history (made ++ more) ≡ after_made (after_made history made) more
+after_made-append history [] more = refl
+after_made-append history (Done call ∷ made) more = after_made-append (Did history call) made more
+after_made-append history (Broke call after ∷ made) more = after_made-append (Failed history call after) made more
+
+pub after_made-dones : (history : History) (calls : List Call) → after_made history (dones calls) ≡ all_did history calls
+after_made-dones history [] = refl
+after_made-dones history (call ∷ calls) = after_made-dones (Did history call) calls
+
+pub dones-append : (calls more : List Call) → dones (calls ++ more) ≡ dones calls ++ dones more
+dones-append [] more = refl
+dones-append (call ∷ calls) more = ap (λ l. Done call ∷ l) (dones-append calls more)
 
 pub all_did-append : (start : History) (made more : List Call) → all_did start (made ++ more) ≡ all_did (all_did start made) more
 all_did-append start [] more = refl
 all_did-append start (call ∷ made) more = all_did-append (Did start call) made more
-
-at_some : (P : History → Type 0) (o : Option History) (h : History) → o ≡ Some h → IfSome o P → P h
-at_some P o h is p = let Q : Option History → Type 0 = λ o. IfSome o P in subst Q is p
-
-on_err : {T E P : Type 0} (result : Result T E) → P → OnErr result P
-on_err (Ok x) p = tt
-on_err (Err e) p = p
-
-on_ok : {T E P : Type 0} (result : Result T E) → P → OnOk result P
-on_ok (Ok x) p = p
-on_ok (Err e) p = tt
-
--- one call more, that answered Ok
-pub more : (first old new : Option History) (made : List Call) (call : Call) → SoFar first made old
-    → IfSome old (λ h. new ≡ Some (did h call)) → SoFar first (made ++ call ∷ []) new
-more None old new made call so done = tt
-more (Some start) old new made call so done =
-    at_some (λ h. new ≡ Some (did h call)) old (all_did start made) so done ∙ ap (λ h. Some h) (sym (all_did-append start made (call ∷ [])))
-
--- calls that another function made, all of which answered Ok
-pub more_all : (first old new : Option History) (made calls : List Call) → SoFar first made old
-    → IfSome old (λ h. new ≡ Some (all_did h calls)) → SoFar first (made ++ calls) new
-more_all None old new made calls so all = tt
-more_all (Some start) old new made calls so all =
-    at_some (λ h. new ≡ Some (all_did h calls)) old (all_did start made) so all ∙ ap (λ h. Some h) (sym (all_did-append start made calls))
-
--- a call that told nothing new, as a read
-pub still : (first old new : Option History) (made : List Call) → SoFar first made old → new ≡ old → SoFar first made new
-still None old new made so same = tt
-still (Some start) old new made so same = same ∙ so
-
--- one that failed, of a run that was to make more calls
-pub stopped : {T E : Type 0} (result : Result T E) (first old new : Option History) (made : List Call) (call : Call) (rest : List Call) → SoFar first made old
-    → IfSome old (λ h. FailedAt h call new) → IfSome first (λ start. OnErr result (FailedIn start (made ++ call ∷ rest) new))
-stopped result None old new made call rest so failed = tt
-stopped result (Some start) old new made call rest so failed =
-    on_err result (made, call, rest, refl, at_some (λ h. FailedAt h call new) old (all_did start made) so failed)
-
--- the same, of a list that is known to go on so
-pub stopped_of : {T E : Type 0} (result : Result T E) (first old new : Option History) (made : List Call) (call : Call) (rest calls : List Call) → calls ≡ made ++ call ∷ rest
-    → SoFar first made old → IfSome old (λ h. FailedAt h call new) → IfSome first (λ start. OnErr result (FailedIn start calls new))
-stopped_of {T} {E} result first old new made call rest calls split so failed =
-    let P : List Call → Type 0 = λ l. IfSome first (λ start. OnErr result (FailedIn start l new)) in
-    subst P (sym split) (stopped result first old new made call rest so failed)
-
--- a run within a longer one
-failed_within : (start : History) (made calls rest : List Call) (new : Option History) → FailedIn (all_did start made) calls new → FailedIn start (made ++ (calls ++ rest)) new
-failed_within start made calls rest new f = (
-  made ++ f.0,
-  f.1,
-  f.2 ++ rest,
-  append_assoc made f.0 (f.1 ∷ (f.2 ++ rest)) ∙ ap (λ l. made ++ l) (sym (append_assoc f.0 (f.1 ∷ f.2) rest) ∙ ap (λ l. l ++ rest) f.3),
-  let P : History → Type 0 = λ h. FailedAt h f.1 new in subst P (sym (all_did-append start made f.0)) f.4,
-)
-
-broken_within : (start : History) (made calls rest : List Call) (new : Option History) → BrokenOff (all_did start made) calls new → BrokenOff start (made ++ (calls ++ rest)) new
-broken_within start made calls rest new b = (
-  made ++ b.0,
-  (
-    b.1.0 ++ rest,
-    append_assoc made b.0 (b.1.0 ++ rest) ∙ ap (λ l. made ++ l) (sym (append_assoc b.0 b.1.0 rest) ∙ ap (λ l. l ++ rest) b.1.1),
-  ),
-  b.2 ∙ ap (λ h. Some h) (sym (all_did-append start made b.0)),
-)
-
--- another function made the first of its calls, and then failed
-pub stopped_within : {T E : Type 0} (result : Result T E) (first old new : Option History) (made calls rest : List Call) → SoFar first made old
-    → IfSome old (λ h. FailedIn h calls new) → IfSome first (λ start. OnErr result (FailedIn start (made ++ (calls ++ rest)) new))
-stopped_within result None old new made calls rest so failed = tt
-stopped_within result (Some start) old new made calls rest so failed =
-    on_err result (failed_within start made calls rest new (at_some (λ h. FailedIn h calls new) old (all_did start made) so failed))
-
--- another function made the first of its calls, and ended early
-pub ended_within : {T E : Type 0} (result : Result T E) (first old new : Option History) (made calls rest : List Call) → SoFar first made old
-    → IfSome old (λ h. EndedIn h calls new) → IfSome first (λ start. OnErr result (EndedIn start (made ++ (calls ++ rest)) new))
-ended_within result None old new made calls rest so ended = tt
-ended_within result (Some start) old new made calls rest so ended =
-    on_err result (⊎_elim (λ f. inl (failed_within start made calls rest new f)) (λ b. inr (broken_within start made calls rest new b)) (at_some (λ h. EndedIn h calls new) old (all_did start made) so ended))
-
--- a run that was broken off for another reason than a call that failed
-pub broken_off : {T E : Type 0} (result : Result T E) (first now : Option History) (made calls : List Call) → IsFrontOf made calls → SoFar first made now
-    → IfSome first (λ start. OnErr result (BrokenOff start calls now))
-broken_off result None now made calls front so = tt
-broken_off result (Some start) now made calls front so = on_err result (made, front, so)
-
--- either kind is an early end
-pub failed_ended : {T E : Type 0} (result : Result T E) (first now : Option History) (calls : List Call) → IfSome first (λ start. OnErr result (FailedIn start calls now))
-    → IfSome first (λ start. OnErr result (EndedIn start calls now))
-failed_ended result None now calls failed = tt
-failed_ended (Ok x) (Some start) now calls failed = tt
-failed_ended (Err e) (Some start) now calls failed = inl failed
-
-pub broken_ended : {T E : Type 0} (result : Result T E) (first now : Option History) (calls : List Call) → IfSome first (λ start. OnErr result (BrokenOff start calls now))
-    → IfSome first (λ start. OnErr result (EndedIn start calls now))
-broken_ended result None now calls broken = tt
-broken_ended (Ok x) (Some start) now calls broken = tt
-broken_ended (Err e) (Some start) now calls broken = inr broken
-
--- all calls were made
-pub finished : {T E : Type 0} (result : Result T E) (first new : Option History) (calls : List Call) → SoFar first calls new
-    → IfSome first (λ start. OnOk result (new ≡ Some (all_did start calls)))
-finished result None new calls so = tt
-finished result (Some start) new calls so = on_ok result so
 
 -- the bytes shown after calls that were done whole
 pub shown-all_did : (start : History) (calls : List Call) → shown (all_did start calls) ≡ all_done (shown start) calls
@@ -133,85 +38,157 @@ shown-all_did start (call ∷ calls) = shown-all_did (Did start call) calls
 pub settled-all_did : (start : History) (calls : List Call) → IsSettled (all_did start (calls ++ Sync ∷ []))
 settled-all_did start calls = subst IsSettled (sym (all_did-append start calls (Sync ∷ []))) (synced (all_did start calls))
 
--- at the end of calls that end with a sync: the bytes of all of them, and nothing pending
-pub ends_settled : {T E : Type 0} (result : Result T E) (first new : Option History) (calls : List Call)
-    → IfSome first (λ start. OnOk result (new ≡ Some (all_did start (calls ++ Sync ∷ []))))
-    → IfSome first (λ start. OnOk result (IfSome new (λ now. IsSettled now × (shown now ≡ all_done (shown start) (calls ++ Sync ∷ [])))))
-ends_settled result None new calls all = tt
-ends_settled (Err e) (Some start) new calls all = tt
-ends_settled (Ok x) (Some start) new calls all =
-    let P : Option History → Type 0 = λ o. IfSome o (λ now. IsSettled now × (shown now ≡ all_done (shown start) (calls ++ Sync ∷ []))) in
-    subst P (sym all) (settled-all_did start calls, shown-all_did start (calls ++ Sync ∷ []))
+pub history_of-dones : (first : List ℕ) (old : List Made) (calls : List Call) → history_of first (old ++ dones calls) ≡ all_did (history_of first old) calls
+history_of-dones first old calls = after_made-append (Start first) old (dones calls) ∙ after_made-dones (history_of first old) calls
 
--- what a run that ended early left: the first of its calls, and perhaps one more that failed
-record Ended (start : History) (calls : List Call) (told : Option History) : Type 0 where
-  now : History
-  made : List Call
-  tells : told ≡ Some now
-  front : IsFrontOf made calls
-  went : Went start made now
+-- calls that end with a sync, all done whole
+pub ends_settled : (first : Option (List ℕ)) (old new : List Made) (calls : List Call) → new ≡ old ++ dones (calls ++ Sync ∷ [])
+    → EndsSettled first old (calls ++ Sync ∷ []) new
+ends_settled None old new calls is = tt
+ends_settled (Some bytes) old new calls is =
+    let P : History → Type 0 = λ h. IsSettled h × (shown h ≡ all_done (shown (history_of bytes old)) (calls ++ Sync ∷ [])) in
+    subst P (sym (ap (history_of bytes) is ∙ history_of-dones bytes old (calls ++ Sync ∷ [])))
+    (settled-all_did (history_of bytes old) calls, shown-all_did (history_of bytes old) (calls ++ Sync ∷ []))
 
-front_of_failed : (made : List Call) (call : Call) (rest calls : List Call) → made ++ call ∷ rest ≡ calls → IsFrontOf (and_failed made call) calls
-front_of_failed made (Write at bytes) rest calls split = (rest, append_assoc made (Write at bytes ∷ []) rest ∙ split)
-front_of_failed made Sync rest calls split = (Sync ∷ rest, split)
-front_of_failed made (SetLen len) rest calls split = (rest, append_assoc made (SetLen len ∷ []) rest ∙ split)
+-- the first of a plan
 
-ended_failed : (start : History) (calls : List Call) (told : Option History) → FailedIn start calls told → Ended start calls told
-ended_failed start calls told f = elim f.4 [
-  | inl same ↦ record { now = all_did start f.0; made = f.0; tells = same; front = (f.1 ∷ f.2, f.3); went = inl refl }
-  | inr recorded ↦ record {
-    now = Failed (all_did start f.0) f.1 recorded.0;
-    made = and_failed f.0 f.1;
-    tells = recorded.2;
-    front = front_of_failed f.0 f.1 f.2 calls f.3;
-    went = inr (f.0, f.1, recorded.0, refl, refl);
-  }
-]
+pub are_all : (plan : List Call) → AreFirst (dones plan) plan
+are_all [] = tt
+are_all (call ∷ plan) = (refl, are_all plan)
 
-ended_early : (start : History) (calls : List Call) (told : Option History) → EndedIn start calls told → Ended start calls told
-ended_early start calls told (inl failed) = ended_failed start calls told failed
-ended_early start calls told (inr broken) = record { now = all_did start broken.0; made = broken.0; tells = broken.2; front = broken.1; went = inl refl }
+pub first_of_more : (calls : List Call) (made : List Made) (plan : List Call) → AreFirst made plan → AreFirst (dones calls ++ made) (calls ++ plan)
+first_of_more [] made plan are = are
+first_of_more (call ∷ calls) made plan are = (refl, first_of_more calls made plan are)
 
--- the law, for such a run
-ended_leaves : (start : History) (calls : List Call) (told : Option History) → Ended start calls told → IsSettled start → AtAnyMoment start calls told
-ended_leaves start calls told ended settled = (
-  ended.now,
-  ended.tells,
-  λ made image left. let is = law start ended.now ended.made settled ended.went made image left in (front_of_front made ended.made calls is.0 ended.front, is.1),
+pub first_of_longer : (made : List Made) (plan rest : List Call) → AreFirst made plan → AreFirst made (plan ++ rest)
+first_of_longer [] plan rest are = tt
+first_of_longer (made ∷ mades) [] rest are = absurd are
+first_of_longer (Done call ∷ mades) (due ∷ plan) rest are = (are.0, first_of_longer mades plan rest are.1)
+first_of_longer (Broke call after ∷ mades) (due ∷ plan) rest are = are
+
+pub count_done-more : (calls : List Call) (made : List Made) → count_done (dones calls ++ made) ≡ length calls + count_done made
+count_done-more [] made = omega arith
+count_done-more (call ∷ calls) made = let more = count_done-more calls made in omega arith
+
+-- another function's run within a longer one
+
+-- a run broke off, of which this is a longer one
+pub broke_off_within : (old mid new : List Made) (calls plan rest : List Call) → mid ≡ old ++ dones calls → BrokeOff mid plan new → BrokeOff old (calls ++ (plan ++ rest)) new
+broke_off_within old mid new calls plan rest so broke = (
+  dones calls ++ broke.0,
+  first_of_more calls broke.0 (plan ++ rest) (first_of_longer broke.0 plan rest broke.1),
+  (let count = count_done-more calls broke.0 in let less = broke.2 in omega (arith, length-append calls (plan ++ rest), length-append plan rest)),
+  broke.3 ∙ ap (λ l. l ++ broke.0) so ∙ append_assoc old (dones calls) broke.0,
 )
 
-ended_leaves_behind : (start : History) (calls : List Call) (told : Option History) → Ended start (Sync ∷ calls) told → AtAnyMomentBehindSync start calls told
-ended_leaves_behind start calls told ended = (
-  ended.now,
-  ended.tells,
-  λ made image left. law_behind_sync start ended.now calls ended.made ended.front ended.went made image left,
-)
+-- it broke off at a call of its own
+pub broke_off_at : (old mid new : List Made) (calls : List Call) (call : Call) (rest : List Call) → mid ≡ old ++ dones calls
+    → (new ≡ mid) ⊎ ((after : List ℕ) × (new ≡ mid ++ Broke call after ∷ [])) → BrokeOff old (calls ++ call ∷ rest) new
+broke_off_at old mid new calls call rest so failed = broke_off_within old mid new calls (call ∷ []) rest so (one failed)
+  where
+    one : (new ≡ mid) ⊎ ((after : List ℕ) × (new ≡ mid ++ Broke call after ∷ [])) → BrokeOff mid (call ∷ []) new
+    one (inl same) = ([], tt, omega arith, same ∙ sym (append-nil mid))
+    one (inr broke) = (Broke call broke.0 ∷ [], (refl, refl), omega arith, broke.1)
 
-whole_run : (start : History) (calls : List Call) (told : Option History) → told ≡ Some (all_did start calls) → Ended start calls told
-whole_run start calls told all = record { now = all_did start calls; made = calls; tells = all; front = front_whole calls; went = inl refl }
+-- the same, of a plan that is known to go on so
+pub broke_off_in : (old mid new : List Made) (calls : List Call) (call : Call) (rest plan : List Call) → plan ≡ calls ++ call ∷ rest → mid ≡ old ++ dones calls
+    → (new ≡ mid) ⊎ ((after : List ℕ) × (new ≡ mid ++ Broke call after ∷ [])) → BrokeOff old plan new
+broke_off_in old mid new calls call rest plan split so failed =
+    let P : List Call → Type 0 = λ l. BrokeOff old l new in subst P (sym split) (broke_off_at old mid new calls call rest so failed)
+
+-- the first of a plan were made, whether all or not
+pub made_first : {T E : Type 0} (result : Result T E) (old new : List Made) (plan : List Call) → Runs old plan new result → MadeFirst old plan new
+made_first (Ok x) old new plan runs = (dones plan, are_all plan, runs.ok)
+made_first (Err e) old new plan runs = (runs.err.0, runs.err.1, runs.err.3)
+
+-- to the law
+
+and_failed-more : (first : Call) (made : List Call) (last : Call) → first ∷ and_failed made last ≡ and_failed (first ∷ made) last
+and_failed-more first made (Write at bytes) = refl
+and_failed-more first made Sync = refl
+and_failed-more first made (SetLen len) = refl
+
+front_of_broken : (call : Call) (plan : List Call) → IsFrontOf (and_failed [] call) (call ∷ plan)
+front_of_broken (Write at bytes) plan = (plan, refl)
+front_of_broken Sync plan = (Sync ∷ plan, refl)
+front_of_broken (SetLen len) plan = (plan, refl)
+
+went_one_more : (history : History) (first : Call) (calls : List Call) (now : History) → Went (Did history first) calls now → Went history (first ∷ calls) now
+went_one_more history first calls now (inl e) = inl e
+went_one_more history first calls now (inr w) = inr (first ∷ w.0, w.1, w.2, ap (λ l. first ∷ l) w.3 ∙ and_failed-more first w.0 w.1, w.4)
+
+record Front (history : History) (made : List Made) (plan : List Call) : Type 0 where
+  calls : List Call
+  front : IsFrontOf calls plan
+  went : Went history calls (after_made history made)
+
+front_of : (history : History) (made : List Made) (plan : List Call) → AreFirst made plan → Front history made plan
+front_of history [] plan are = record { calls = []; front = (plan, refl); went = inl refl }
+front_of history (made ∷ mades) [] are = absurd are
+front_of history (Done call ∷ mades) (due ∷ plan) are =
+    let r = front_of (Did history call) mades plan are.1 in
+    record {
+      calls = call ∷ r.calls;
+      front = (r.front.0, ap (λ l. call ∷ l) r.front.1 ∙ ap (λ c. c ∷ plan) are.0);
+      went = went_one_more history call r.calls (after_made (Did history call) mades) r.went;
+    }
+front_of history (Broke call after ∷ mades) (due ∷ plan) are =
+    let P : List Made → Type 0 = λ l. Went history (and_failed [] call) (after_made (Failed history call after) l) in
+    let Q : Call → Type 0 = λ c. IsFrontOf (and_failed [] call) (c ∷ plan) in
+    record {
+      calls = and_failed [] call;
+      front = subst Q are.0 (front_of_broken call plan);
+      went = subst P (sym are.1) (inr ([], call, after, refl, refl));
+    }
+
+went_now : (first : List ℕ) (old new : List Made) (plan : List Call) (made : MadeFirst old plan new) (f : Front (history_of first old) made.0 plan)
+    → Went (history_of first old) f.calls (history_of first new)
+went_now first old new plan made f =
+    let now : history_of first new ≡ after_made (history_of first old) made.0 = ap (history_of first) made.2 ∙ after_made-append (Start first) old made.0 in
+    let P : History → Type 0 = λ h. Went (history_of first old) f.calls h in
+    subst P (sym now) f.went
 
 -- at any moment of a run from a start where nothing was pending
-pub any_moment_ended : {T E : Type 0} (result : Result T E) (first : Option History) (calls : List Call) (now : Option History)
-    → IfSome first (λ start. OnOk result (now ≡ Some (all_did start calls))) → IfSome first (λ start. OnErr result (EndedIn start calls now))
-    → IfSome first (λ start. IsSettled start → AtAnyMoment start calls now)
-any_moment_ended result None calls now all ended = tt
-any_moment_ended (Ok x) (Some start) calls now all ended = ended_leaves start calls now (whole_run start calls now all)
-any_moment_ended (Err e) (Some start) calls now all ended = ended_leaves start calls now (ended_early start calls now ended)
-
-pub any_moment : {T E : Type 0} (result : Result T E) (first : Option History) (calls : List Call) (now : Option History)
-    → IfSome first (λ start. OnOk result (now ≡ Some (all_did start calls))) → IfSome first (λ start. OnErr result (FailedIn start calls now))
-    → IfSome first (λ start. IsSettled start → AtAnyMoment start calls now)
-any_moment result first calls now all failed = any_moment_ended result first calls now all (failed_ended result first now calls failed)
+pub any_moment : (first : Option (List ℕ)) (old new : List Made) (plan : List Call) → MadeFirst old plan new → AtAnyMoment first old plan new
+any_moment None old new plan made = tt
+any_moment (Some bytes) old new plan made = λ settled by_then image left.
+    let start = history_of bytes old in
+    let f = front_of start made.0 plan made.1 in
+    let is = law start (history_of bytes new) f.calls settled (went_now bytes old new plan made f) by_then image left in
+    (front_of_front by_then f.calls plan is.0 f.front, is.1)
 
 -- at any moment of a run that begins with a sync, from any start
-pub any_moment_behind_sync_ended : {T E : Type 0} (result : Result T E) (first : Option History) (calls : List Call) (now : Option History)
-    → IfSome first (λ start. OnOk result (now ≡ Some (all_did start (Sync ∷ calls)))) → IfSome first (λ start. OnErr result (EndedIn start (Sync ∷ calls) now))
-    → IfSome first (λ start. AtAnyMomentBehindSync start calls now)
-any_moment_behind_sync_ended result None calls now all ended = tt
-any_moment_behind_sync_ended (Ok x) (Some start) calls now all ended = ended_leaves_behind start calls now (whole_run start (Sync ∷ calls) now all)
-any_moment_behind_sync_ended (Err e) (Some start) calls now all ended = ended_leaves_behind start calls now (ended_early start (Sync ∷ calls) now ended)
+pub any_moment_behind_sync : (first : Option (List ℕ)) (old new : List Made) (plan : List Call) → MadeFirst old (Sync ∷ plan) new → AtAnyMomentBehindSync first old plan new
+any_moment_behind_sync None old new plan made = tt
+any_moment_behind_sync (Some bytes) old new plan made =
+    let start = history_of bytes old in
+    let f = front_of start made.0 (Sync ∷ plan) made.1 in
+    law_behind_sync start (history_of bytes new) plan f.calls f.front (went_now bytes old new (Sync ∷ plan) made f)
 
-pub any_moment_behind_sync : {T E : Type 0} (result : Result T E) (first : Option History) (calls : List Call) (now : Option History)
-    → IfSome first (λ start. OnOk result (now ≡ Some (all_did start (Sync ∷ calls)))) → IfSome first (λ start. OnErr result (FailedIn start (Sync ∷ calls) now))
-    → IfSome first (λ start. AtAnyMomentBehindSync start calls now)
-any_moment_behind_sync result first calls now all failed = any_moment_behind_sync_ended result first calls now all (failed_ended result first now (Sync ∷ calls) failed)
+-- for a function's answers, from what the function that it calls says of its run
+
+pub run_any_moment : {T E : Type 0} (result : Result T E) (first : Option (List ℕ)) (old new : List Made) (plan : List Call) → Runs old plan new result → AtAnyMoment first old plan new
+run_any_moment result first old new plan runs = any_moment first old new plan (made_first result old new plan runs)
+
+pub run_any_moment_behind_sync : {T E : Type 0} (result : Result T E) (first : Option (List ℕ)) (old new : List Made) (plan : List Call) → Runs old (Sync ∷ plan) new result
+    → AtAnyMomentBehindSync first old plan new
+run_any_moment_behind_sync result first old new plan runs = any_moment_behind_sync first old new plan (made_first result old new (Sync ∷ plan) runs)
+
+pub run_ends_settled : {T E : Type 0} (result : Result T E) (first : Option (List ℕ)) (old new : List Made) (calls : List Call) → Runs old (calls ++ Sync ∷ []) new result
+    → OnOk result (EndsSettled first old (calls ++ Sync ∷ []) new)
+run_ends_settled (Ok x) first old new calls runs = ends_settled first old new calls runs.ok
+run_ends_settled (Err e) first old new calls runs = tt
+
+-- so far these calls were made; one more that was done whole
+pub one_more : (old mid new : List Made) (calls : List Call) (call : Call) → mid ≡ old ++ dones calls → new ≡ mid ++ Done call ∷ [] → new ≡ old ++ dones (calls ++ call ∷ [])
+one_more old mid new calls call so done =
+    done ∙ ap (λ l. l ++ Done call ∷ []) so ∙ append_assoc old (dones calls) (Done call ∷ []) ∙ ap (λ l. old ++ l) (sym (dones-append calls (call ∷ [])))
+
+-- another function's, that were all done whole
+pub more : (old mid new : List Made) (calls plan : List Call) → mid ≡ old ++ dones calls → new ≡ mid ++ dones plan → new ≡ old ++ dones (calls ++ plan)
+more old mid new calls plan so done =
+    done ∙ ap (λ l. l ++ dones plan) so ∙ append_assoc old (dones calls) (dones plan) ∙ ap (λ l. old ++ l) (sym (dones-append calls plan))
+
+pub on_err : {T E P : Type 0} (result : Result T E) → P → OnErr result P
+on_err (Ok x) p = tt
+on_err (Err e) p = p

@@ -1,5 +1,5 @@
 -- What calls make of the bytes of a disk: lists alone.
-use Rattle.std.specs.Prelude.{ℕ, List, [], ◌∷◌, ◌++◌, ◌+◌, ◌-◌, ◌||◌, Bool, true, false, take, drop, length, replicate, if◌then◌else◌}
+use Rattle.std.specs.Prelude.{ℕ, List, [], ◌∷◌, ◌++◌, ◌+◌, ◌-◌, ◌||◌, ◌≤◌, Bool, true, false, take, drop, length, replicate, if◌then◌else◌}
 use Rattle.rp_disk.specs.declared.call.Call.{Call}
 use Rattle.rp_disk.specs.declared.call.Call.TheVariants.{Write, Sync, SetLen}
 
@@ -21,6 +21,12 @@ done image (SetLen len) = resized image len
 abbrev pub all_done : List ℕ → List Call → List ℕ
 all_done image [] = image
 all_done image (call ∷ calls) = all_done (done image call) calls
+
+-- the call is within an image of this length: a write lies inside it
+abbrev pub IsWithin : ℕ → Call → Type 0
+IsWithin len (Write at bytes) = at + length bytes ≤ len
+IsWithin len Sync = Unit {0}
+IsWithin len (SetLen n) = Unit {0}
 
 abbrev pub is_write : Call → Bool
 is_write (Write at bytes) = true

@@ -1,8 +1,7 @@
 -- What a disk tells of itself: its history, and what that means.
-use Rattle.std.specs.Prelude.{ℕ, List, [], ◌∷◌, ◌++◌, ◌≡◌, ◌⊎◌, ◌+◌, ◌≤◌, ◌<◌, nat_le, count_by, Option, Some, if◌then◌else◌}
-use Rattle.rp_base.specs.Faults.{Rose}
+use Rattle.std.specs.Prelude.{ℕ, List, [], ◌∷◌, ◌++◌, ◌≡◌, ◌⊎◌, ◌+◌, ◌≤◌, length, nat_le, if◌then◌else◌}
 use Rattle.rp_disk.specs.declared.call.Call.{Call}
-use Rattle.rp_disk.specs.Calls.{done, is_sync, is_write}
+use Rattle.rp_disk.specs.Calls.{done, is_sync, IsWithin}
 use Rattle.rp_disk.specs.Stops.{Agrees}
 
 -- the bytes that it had at first; after a history, one more changing call, which was done whole; or one that failed,
@@ -17,16 +16,6 @@ abbrev pub shown : History → List ℕ
 shown (Start bytes) = bytes
 shown (Did before call) = done (shown before) call
 shown (Failed before call after) = after
-
--- all changing calls, those that failed too
-abbrev pub changing : History → List Call
-changing (Start bytes) = []
-changing (Did before call) = changing before ++ call ∷ []
-changing (Failed before call after) = changing before ++ call ∷ []
-
--- how many of them are writes
-abbrev pub writes : History → ℕ
-writes history = count_by is_write (changing history)
 
 -- the moment, as the number of changing calls so far
 abbrev pub moment : History → ℕ
@@ -84,11 +73,8 @@ abbrev pub all_did : History → List Call → History
 all_did history [] = history
 all_did history (call ∷ calls) = all_did (Did history call) calls
 
--- a call that answered Failed: it was not recorded and changed nothing, or the bytes shown are some that a stop may leave of it
-abbrev pub FailedAt : History → Call → Option History → Type 0
-FailedAt history call now = (now ≡ Some history) ⊎ ((after : List ℕ) × Agrees (shown history) (call ∷ []) after × (now ≡ Some (Failed history call after)))
-
--- the number of stray calls rises exactly where a range passes the end
-pub record CountsStray (end len before now : ℕ) : Type 0 where
-  pub inside : end ≤ len → now ≡ before
-  pub past : len < end → Rose before now
+-- each call that was done whole lay within the bytes shown, and each that failed left what a stop may leave of it
+abbrev pub IsLawful : History → Type 0
+IsLawful (Start bytes) = Unit {0}
+IsLawful (Did before call) = IsLawful before × IsWithin (length (shown before)) call
+IsLawful (Failed before call after) = IsLawful before × Agrees (shown before) (call ∷ []) after

@@ -1,23 +1,29 @@
--- The history of a disk in memory, from the calls that it keeps and which of them answered Ok.
+-- What a disk in memory tells, from the calls that it keeps and which of them answered Ok.
 use Rattle.std.specs.Prelude.{ℕ, List, [], ◌∷◌, ◌+◌, ◌&&◌, nat_le, length, Bool, true, if◌then◌else◌}
 use Rattle.rp_disk.specs.declared.call.Call.{Call}
 use Rattle.rp_disk.specs.declared.call.Call.TheVariants.{Write, Sync, SetLen}
+use Rattle.rp_disk.specs.Calls.{done}
 use Rattle.rp_disk.specs.History.{History, Start, Did, Failed, shown}
+use Rattle.rp_disk.specs.Made.{Made, Done, Broke}
 
--- one more call; one that failed changed nothing
+-- a call with its answer, on a disk that shows these bytes: one that failed changed nothing
+abbrev pub answered : List ℕ → Call → Bool → Made
+answered image call ok = if ok then Done call else Broke call image
+
+-- the history with one more such call
 abbrev pub noted : History → Call → Bool → History
 noted history call ok = if ok then Did history call else Failed history call (shown history)
 
--- the history with more calls and their answers
-abbrev pub replayed : History → List Call → List Bool → History
-replayed history [] oks = history
-replayed history (call ∷ calls) [] = history
-replayed history (call ∷ calls) (ok ∷ oks) = replayed (noted history call ok) calls oks
+-- calls with their answers, from a disk that shows these bytes on
+abbrev pub all_answered : List ℕ → List Call → List Bool → List Made
+all_answered image [] oks = []
+all_answered image (call ∷ calls) [] = []
+all_answered image (call ∷ calls) (ok ∷ oks) = answered image call ok ∷ all_answered (if ok then done image call else image) calls oks
 
--- the history of a disk that shows these bytes: it keeps its first bytes only once it has made a call
-abbrev pub kept : List ℕ → List ℕ → List Call → List Bool → History
-kept bytes first [] oks = Start bytes
-kept bytes first (call ∷ calls) oks = replayed (Start first) (call ∷ calls) oks
+-- the bytes at first of a disk that shows these: it keeps them only once it has made a call
+abbrev pub first_kept : List ℕ → List ℕ → List Call → List ℕ
+first_kept image first [] = image
+first_kept image first (call ∷ calls) = first
 
 -- a call that was done whole lay within the bytes shown
 abbrev pub fits : List ℕ → Call → Bool

@@ -3,10 +3,13 @@ pub mod Stops
 pub mod Blocks
 pub mod Ranges
 pub mod History
+pub mod Made
+pub mod MadeCode
+pub mod Noted
 pub mod Runs
 pub mod MemDisk
 pub mod FileDisk
+pub mod Files
 pub mod Kept
+pub mod KeptLawful
 pub mod Record
-pub mod Agreeing
-pub mod KeptShown

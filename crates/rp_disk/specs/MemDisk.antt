@@ -1,13 +1,22 @@
 -- What a disk in memory is: what it tells, from what it keeps.
-use Rattle.std.specs.Prelude.{ℕ, List, ◌≡◌, ◌+◌, ◌-◌, ◌^◌, ◌⊎◌, min, Result, OnOk, OnErr, Contains}
+use Rattle.std.specs.Prelude.{ℕ, List, [], ◌∷◌, ◌++◌, ◌≡◌, ◌+◌, ◌-◌, ◌^◌, ◌⊎◌, ◌<◌, min, Result, OnOk, OnErr, Contains}
 use Rattle.rp_disk.specs.declared.call.Call.{Call}
 use Rattle.rp_disk.specs.declared.mem.MemDisk.{MemDisk}
-use Rattle.rp_disk.specs.History.{History, Did, Failed, shown}
-use Rattle.rp_disk.specs.Record.{recorded}
+use Rattle.rp_disk.specs.History.{History, shown}
+use Rattle.rp_disk.specs.Made.{Made, Done, Broke}
+use Rattle.rp_disk.specs.Record.{first_bytes, recorded, history_kept}
 
--- its history, which it tells
+-- its bytes at first
+abbrev pub first : MemDisk → List ℕ
+first disk = first_bytes disk.bytes.items disk.notes
+
+-- its calls with their answers
+abbrev pub calls : MemDisk → List Made
+calls disk = recorded disk.notes
+
+-- its history, which is these two
 abbrev pub history : MemDisk → History
-history disk = recorded disk.bytes.items disk.notes
+history disk = history_kept disk.bytes.items disk.notes
 
 -- how many of its calls found no memory
 abbrev pub starved : MemDisk → ℕ
@@ -25,19 +34,32 @@ strays_of disk = disk.strays
 abbrev pub made : MemDisk → ℕ
 made disk = disk.made
 
--- the numbers of the calls that are to fail, from 1
+-- the numbers of calls that are to fail, from 1
 abbrev pub listed : MemDisk → List ℕ
 listed disk = disk.fail
 
--- a call that found memory fails exactly where its number is listed or its range passes the end
+-- how many calls pass before all are to fail
+abbrev pub fuse : MemDisk → ℕ
+fuse disk = disk.fuse
+
+-- the call with this number is to fail
+abbrev pub IsToFail : MemDisk → ℕ → Type 0
+IsToFail disk number = Contains (listed disk) number ⊎ (fuse disk < number)
+
+-- which calls are to fail stays
+pub record SameToFail (old new : MemDisk) : Type 0 where
+  pub listed : listed new ≡ listed old
+  pub fuse : fuse new ≡ fuse old
+
+-- a call that found memory fails exactly where it is to, or its range passes the end
 pub record FailsExactly {T E : Type 0} (old new : MemDisk) (fits : Type 0) (result : Result T E) : Type 0 where
-  pub ok : OnOk result ((Contains (listed old) (made new) → ⊥) × fits)
-  pub err : OnErr result (Contains (listed old) (made new) ⊎ (fits → ⊥))
+  pub ok : OnOk result ((IsToFail old (made new) → ⊥) × fits)
+  pub err : OnErr result (IsToFail old (made new) ⊎ (fits → ⊥))
 
 -- a call that changes nothing is numbered, and takes no memory
 pub record Reads {T E : Type 0} (old new : MemDisk) (fits : Type 0) (result : Result T E) : Type 0 where
   pub number : made new ≡ min (made old + 1) (2 ^ 64 - 1)
-  pub same : listed new ≡ listed old
+  pub same : SameToFail old new
   pub starved : starved new ≡ starved old
   pub exact : FailsExactly old new fits result
 
@@ -45,17 +67,18 @@ pub record Reads {T E : Type 0} (old new : MemDisk) (fits : Type 0) (result : Re
 pub record Starves {T E : Type 0} (old new : MemDisk) (result : Result T E) : Type 0 where
   pub err : OnOk result ⊥
   pub starved : starved new ≡ min (starved old + 1) (2 ^ 64 - 1)
-  pub history : history new ≡ history old
+  pub first : first new ≡ first old
+  pub calls : calls new ≡ calls old
 
 -- one that found memory is recorded: at Ok as done whole; where it failed the bytes shown are as they were
 pub record Records {T E : Type 0} (old new : MemDisk) (call : Call) (fits : Type 0) (result : Result T E) : Type 0 where
   pub starved : starved new ≡ starved old
   pub exact : FailsExactly old new fits result
-  pub done : OnOk result (history new ≡ Did (history old) call)
-  pub failed : OnErr result (history new ≡ Failed (history old) call (shown (history old)))
+  pub done : OnOk result (calls new ≡ calls old ++ Done call ∷ [])
+  pub failed : OnErr result (calls new ≡ calls old ++ Broke call (shown (history old)) ∷ [])
 
 -- a changing call is numbered, and finds memory or not
 pub record Changes {T E : Type 0} (old new : MemDisk) (call : Call) (fits : Type 0) (result : Result T E) : Type 0 where
   pub number : made new ≡ min (made old + 1) (2 ^ 64 - 1)
-  pub same : listed new ≡ listed old
+  pub same : SameToFail old new
   pub outcome : Records old new call fits result ⊎ Starves old new result

@@ -1,11 +1,7 @@
--- Ranges of bytes, and calls that leave them alone.
-use Rattle.std.specs.Prelude.{ℕ, List, ◌⊎◌, ◌+◌, ◌<◌, ◌≤◌, length, take, drop}
+-- Calls that leave bytes alone.
+use Rattle.std.specs.Prelude.{ℕ, List, ◌⊎◌, ◌+◌, ◌<◌, ◌≤◌, length}
 use Rattle.rp_disk.specs.declared.call.Call.{Call}
 use Rattle.rp_disk.specs.declared.call.Call.TheVariants.{Write, Sync, SetLen}
-
--- the bytes of a range: as many as size, from an offset on
-abbrev pub range : ℕ → ℕ → List ℕ → List ℕ
-range at size image = take size (drop at image)
 
 -- the call leaves byte k alone: a write misses it, and a length that is set lies behind it
 abbrev pub Misses : ℕ → Call → Type 0

@@ -1,35 +1,53 @@
 -- What functions that make calls on a disk say of them.
-use Rattle.std.specs.Prelude.{List, ℕ, ◌∷◌, ◌++◌, ◌≡◌, ◌⊎◌, Option, Some}
+use Rattle.std.specs.Prelude.{List, [], ℕ, ◌∷◌, ◌++◌, ◌≡◌, ◌⊎◌, ◌<◌, length, Option, IfSome, Result, OnOk, OnErr}
 use Rattle.rp_disk.specs.declared.call.Call.{Call}
 use Rattle.rp_disk.specs.declared.call.Call.TheVariants.{Sync}
+use Rattle.rp_disk.specs.Calls.{all_done}
 use Rattle.rp_disk.specs.Stops.{Leaves, IsFrontOf}
-use Rattle.rp_disk.specs.History.{History, Failed, MayLeave, LeftSince, FailedAt, shown, moment, all_did, and_failed}
+use Rattle.rp_disk.specs.History.{History, Failed, IsSettled, MayLeave, LeftSince, shown, moment, all_did, and_failed}
+use Rattle.rp_disk.specs.Made.{Made, Done, Broke, dones, count_done, history_of}
+
+-- the first of the planned calls, each done whole but perhaps the last, which failed
+abbrev pub AreFirst : List Made → List Call → Type 0
+AreFirst [] plan = Unit {0}
+AreFirst (made ∷ mades) [] = ⊥
+AreFirst (Done call ∷ mades) (due ∷ plan) = (call ≡ due) × AreFirst mades plan
+AreFirst (Broke call after ∷ mades) (due ∷ plan) = (call ≡ due) × (mades ≡ [])
+
+-- since the old calls the first of the planned ones were made
+abbrev pub MadeFirst : List Made → List Call → List Made → Type 0
+MadeFirst old plan new = (made : List Made) × AreFirst made plan × (new ≡ old ++ made)
+
+-- the same, and not all of them were done whole
+abbrev pub BrokeOff : List Made → List Call → List Made → Type 0
+BrokeOff old plan new = (made : List Made) × AreFirst made plan × (count_done made < length plan) × (new ≡ old ++ made)
+
+-- a run that is to make the planned calls: at Ok each was done whole, else it broke off before
+pub record Runs {T E : Type 0} (old : List Made) (plan : List Call) (new : List Made) (result : Result T E) : Type 0 where
+  pub ok : OnOk result (new ≡ old ++ dones plan)
+  pub err : OnErr result (BrokeOff old plan new)
 
 -- from the start on these calls were made, and each answered Ok but perhaps the last; where that is a sync it is none of them
 abbrev pub Went : History → List Call → History → Type 0
 Went start calls now = (now ≡ all_did start calls)
     ⊎ ((made : List Call) × (last : Call) × (after : List ℕ) × (calls ≡ and_failed made last) × (now ≡ Failed (all_did start made) last after))
 
--- a run that was to make these calls ended at one that failed; those before it were all done whole
-abbrev pub FailedIn : History → List Call → Option History → Type 0
-FailedIn start calls now = (made : List Call) × (call : Call) × (rest : List Call) × (made ++ call ∷ rest ≡ calls) × FailedAt (all_did start made) call now
+-- where a disk tells: from a start where nothing was pending, at any moment since, the calls made by then are the first of
+-- the planned, and a stop leaves what it may leave of them on the bytes shown at the start
+abbrev pub AtAnyMoment : Option (List ℕ) → List Made → List Call → List Made → Type 0
+AtAnyMoment first old plan new = IfSome first (λ bytes. IsSettled (history_of bytes old)
+    → (made : List Call) (image : List ℕ) → LeftSince (history_of bytes new) (moment (history_of bytes old)) made image
+    → IsFrontOf made plan × Leaves (shown (history_of bytes old)) made image)
 
--- a run that was to make these calls was broken off: the first of them were all done whole, and no other was begun
-abbrev pub BrokenOff : History → List Call → Option History → Type 0
-BrokenOff start calls now = (made : List Call) × IsFrontOf made calls × (now ≡ Some (all_did start made))
+-- the same of a sync and then the planned, from any start: the image could have been left at the start already, or that
+-- sync was done, and the calls behind it are the first of the planned
+abbrev pub AtAnyMomentBehindSync : Option (List ℕ) → List Made → List Call → List Made → Type 0
+AtAnyMomentBehindSync first old plan new = IfSome first (λ bytes.
+    (made : List Call) (image : List ℕ) → LeftSince (history_of bytes new) (moment (history_of bytes old)) made image
+    → MayLeave (history_of bytes old) image
+    ⊎ ((more : List Call) × (made ≡ Sync ∷ more) × IsFrontOf more plan × Leaves (shown (history_of bytes old)) more image))
 
--- a run that was to make these calls ended early, by a call that failed or for another reason
-abbrev pub EndedIn : History → List Call → Option History → Type 0
-EndedIn start calls now = FailedIn start calls now ⊎ BrokenOff start calls now
-
--- at any moment since the start the calls made by then are the first of these, and a stop leaves what it may leave of
--- them on the bytes shown at the start
-abbrev pub AtAnyMoment : History → List Call → Option History → Type 0
-AtAnyMoment start calls told = (now : History) × (told ≡ Some now)
-    × ((made : List Call) (image : List ℕ) → LeftSince now (moment start) made image → IsFrontOf made calls × Leaves (shown start) made image)
-
--- the same behind a sync: the image could have been left at the start already, or that sync was done, and these calls are the others
-abbrev pub AtAnyMomentBehindSync : History → List Call → Option History → Type 0
-AtAnyMomentBehindSync start calls told = (now : History) × (told ≡ Some now)
-    × ((made : List Call) (image : List ℕ) → LeftSince now (moment start) made image
-    → MayLeave start image ⊎ ((more : List Call) × (made ≡ Sync ∷ more) × IsFrontOf more calls × Leaves (shown start) more image))
+-- where a disk tells: the bytes shown are those of all planned calls, and nothing is pending
+abbrev pub EndsSettled : Option (List ℕ) → List Made → List Call → List Made → Type 0
+EndsSettled first old plan new = IfSome first (λ bytes. IsSettled (history_of bytes new)
+    × (shown (history_of bytes new) ≡ all_done (shown (history_of bytes old)) plan))

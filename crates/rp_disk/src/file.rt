@@ -1,24 +1,35 @@
-ghost use Rattle.std.specs.Prelude.{◌≡◌, ◌↔◌, None, Ok, IsErr, IfOk, IsOk};
-ghost use Rattle.rp_base.specs.Faults.{HasCause};
+ghost use Rattle.std.specs.Prelude.{◌≡◌, ◌↔◌, ◌+◌, ◌≤◌, None, Some, Ok, [], length, IsErr, IfOk, IsOk, IfSome, OnOk, true, false};
+ghost use Rattle.std.specs.Io.KnownBytes.{Appends, Keeps};
+ghost use Rattle.rp_base.specs.Faults.{HasCause, Rose};
+ghost use Rattle.rp_base.specs.Image.{bytes_at};
+ghost use Rattle.rp_disk.specs.Files.{ReadsAhead};
 
-use crate::Disk;
+use crate::log::{Log, Note};
+use crate::{Call, Disk};
 use rp_base::Failed;
 use std::fs::{OpenFile, OpenOptions};
 use std::io::{self, ErrorKind, Read, Seek, SeekFrom, Write};
 use std::rt::Files;
 
-/// A file or block device as a disk. It tells nothing of its content.
+/// A file or block device as a disk. It doesn't tell its bytes, but what it was asked to do.
 #[derive(Drop)]
 pub struct FileDisk<F> {
-    // none where it couldn't be opened for reading and writing
+    // none where it couldn't be opened
     file: Option<F>,
+    // whether it was opened for writing too
+    writable: bool,
     faults: u64,
+    // the changing calls that reached the file
+    log: Log,
 }
 
 impl<F: Read + Write + Seek + OpenFile> FileDisk<F> {
+    ghost use Rattle.rp_disk.specs.FileDisk.{IsToRead};
+
     /// The disk on a path. It never refuses: where the path can't be opened for reading and writing, each call fails.
     pub fn open<R: Files<File = F>>(rt: &R, path: &str) -> FileDisk<F>
-        ensures told { ⟦<FileDisk<F> as Disk>⟧.told result ≡ None }
+        ensures first { ⟦<FileDisk<F> as Disk>⟧.first result ≡ None }
+        ensures calls { ⟦<FileDisk<F> as Disk>⟧.calls result ≡ [] }
         ensures faults { ⟦<FileDisk<F> as Disk>⟧.faults result ≡ 0 }
     {
         FileDisk {
@@ -27,68 +38,80 @@ impl<F: Read + Write + Seek + OpenFile> FileDisk<F> {
                 .write(true)
                 .open(rt, path)
                 .ok(),
+            writable: true,
             faults: 0,
+            log: Log::new(),
+        }
+    }
+
+    /// The disk on a path, for reading alone: each write, sync and change of length fails, and nothing reaches the file.
+    /// It never refuses: where the path can't be opened for reading, each call fails.
+    pub fn open_to_read<R: Files<File = F>>(rt: &R, path: &str) -> FileDisk<F>
+        ensures to_read { IsToRead result }
+        ensures first { ⟦<FileDisk<F> as Disk>⟧.first result ≡ None }
+        ensures calls { ⟦<FileDisk<F> as Disk>⟧.calls result ≡ [] }
+        ensures faults { ⟦<FileDisk<F> as Disk>⟧.faults result ≡ 0 }
+    {
+        FileDisk {
+            file: OpenOptions::new().read(true).open(rt, path).ok(),
+            writable: false,
+            faults: 0,
+            log: Log::new(),
         }
     }
 }
 
 // The length in bytes, found by seeking to the end, which a block device answers too.
-fn measure<F: Seek>(file: &mut Option<F>) -> io::Result<u64>
-    ensures missing { file.old ≡ None → IsErr result }
-    ensures stays { file.new ≡ None ↔ file.old ≡ None }
+fn measure<F: Seek>(file: &mut F) -> io::Result<u64>
+    ensures end { IfSome (F.stream_position file.old) (λ _. IfSome (F.stream_bytes file.old) (λ all. IfOk result (λ n. n ≡ length all))) }
+    ensures bytes { Keeps (F.stream_bytes file.old) (F.stream_bytes file.new) }
 {
-    let Some(file) = file else {
-        return Err(ErrorKind::NotFound.into());
-    };
     file.seek(SeekFrom::End(0))
 }
 
-// Fills the buffer from an offset on.
-fn read_at<F: Read + Seek>(file: &mut Option<F>, at: u64, buf: &mut [u8]) -> io::Result<()>
-    ensures missing { file.old ≡ None → IsErr result }
-    ensures stays { file.new ≡ None ↔ file.old ≡ None }
+// Seeks to a range, where it lies within the file.
+fn seek_within<F: Seek>(file: &mut F, at: u64, count: usize) -> io::Result<()>
+    ensures inside { IfSome (F.stream_position file.old) (λ _. IfSome (F.stream_bytes file.old) (λ all. OnOk result (at + count ≤ length all))) }
+    ensures placed { IfSome (F.stream_position file.old) (λ _. OnOk result (F.stream_position file.new ≡ Some at)) }
+    ensures bytes { Keeps (F.stream_bytes file.old) (F.stream_bytes file.new) }
 {
-    let Some(file) = file else {
-        return Err(ErrorKind::NotFound.into());
-    };
+    let end = file.seek(SeekFrom::End(0))?;
+    if at > end || count as u64 > end - at {
+        return Err(ErrorKind::InvalidInput.into());
+    }
     file.seek(SeekFrom::Start(at))?;
+    Ok(())
+}
+
+// Fills the buffer from an offset on.
+fn read_at<F: Read + Seek>(file: &mut F, at: u64, buf: &mut [u8]) -> io::Result<()>
+    ensures bytes { ReadsAhead F.stream_bytes F.stream_position F.remaining
+        → IfSome (F.stream_position file.old) (λ _. IfSome (F.stream_bytes file.old) (λ all. OnOk result (buf.new ≡ bytes_at all at (length buf.old)))) }
+{
+    seek_within(file, at, buf.len())?;
     file.read_exact(buf)
 }
 
 // Writes all the bytes from an offset on, where they lie within the file.
-fn write_at<F: Write + Seek>(file: &mut Option<F>, at: u64, bytes: &[u8]) -> io::Result<()>
-    ensures missing { file.old ≡ None → IsErr result }
-    ensures stays { file.new ≡ None ↔ file.old ≡ None }
+fn write_at<F: Write + Seek>(file: &mut F, at: u64, bytes: &[u8]) -> io::Result<()> {
+    seek_within(file, at, bytes.len())?;
+    write_whole(file, bytes)
+}
+
+// Writes all the bytes where the file stands.
+fn write_whole<F: Write>(file: &mut F, bytes: &[u8]) -> io::Result<()>
+    ensures { OnOk result (Appends (F.contents file.old) (F.contents file.new) bytes.now) }
 {
-    let Some(file) = file else {
-        return Err(ErrorKind::NotFound.into());
-    };
-    let end = file.seek(SeekFrom::End(0))?;
-    if at > end || bytes.len() as u64 > end - at {
-        return Err(ErrorKind::InvalidInput.into());
-    }
-    file.seek(SeekFrom::Start(at))?;
     file.write_all(bytes)
 }
 
-fn sync<F: OpenFile>(file: &mut Option<F>) -> io::Result<()>
-    ensures missing { file.old ≡ None → IsErr result }
-    ensures stays { file.new ≡ None ↔ file.old ≡ None }
+// Counts a call that failed.
+fn fault(faults: &mut u64) -> Failed
+    ensures rose { Rose faults.old faults.new }
+    ensures later { faults.old ≤ faults.new }
 {
-    let Some(file) = file else {
-        return Err(ErrorKind::NotFound.into());
-    };
-    file.sync_all()
-}
-
-fn set_len<F: OpenFile>(file: &mut Option<F>, len: u64) -> io::Result<()>
-    ensures missing { file.old ≡ None → IsErr result }
-    ensures stays { file.new ≡ None ↔ file.old ≡ None }
-{
-    let Some(file) = file else {
-        return Err(ErrorKind::NotFound.into());
-    };
-    file.set_len(len)
+    *faults = faults.saturating_add(1);
+    Failed
 }
 
 // The answer of a call, which counts where it is an error.
@@ -107,15 +130,18 @@ fn counted<T: Drop>(faults: &mut u64, answer: io::Result<T>) -> Result<T, Failed
 }
 
 impl<F: Read + Write + Seek + OpenFile> Disk for FileDisk<F> {
-    ghost use Rattle.rp_disk.specs.FileDisk.{IsMissing};
+    ghost use Rattle.rp_disk.specs.FileDisk.{IsMissing, IsToRead, SameOpening};
+    ghost use Rattle.rp_disk.specs.Made.{Makes};
 
-    ghost told = { λ _. None };
+    ghost first = { λ _. None };
+
+    ghost calls = { λ disk. disk.log.calls };
 
     ghost faults = { λ disk. disk.faults };
 
     ghost strays = { λ _. 0 };
 
-    ghost shown_may_be_left = { λ _. tt };
+    ghost lawful = { λ _. tt };
 
     fn faults(&self) -> u64 {
         self.faults
@@ -123,46 +149,81 @@ impl<F: Read + Write + Seek + OpenFile> Disk for FileDisk<F> {
 
     fn len(&mut self) -> Result<u64, Failed>
         ensures missing { IsMissing self.old → IsErr result }
-        ensures stays { IsMissing self.new ↔ IsMissing self.old }
+        ensures stays { SameOpening self.old self.new }
+        ensures calls { self.new.log.calls ≡ self.old.log.calls }
         ensures cause { HasCause self.old.faults self.new.faults result }
     {
-        let answer = measure(&mut self.file);
+        let Some(file) = &mut self.file else {
+            return Err(fault(&mut self.faults));
+        };
+        let answer = measure(file);
         counted(&mut self.faults, answer)
     }
 
     fn read(&mut self, at: u64, buf: &mut [u8]) -> Result<(), Failed>
         ensures missing { IsMissing self.old → IsErr result }
-        ensures stays { IsMissing self.new ↔ IsMissing self.old }
+        ensures stays { SameOpening self.old self.new }
+        ensures calls { self.new.log.calls ≡ self.old.log.calls }
         ensures cause { HasCause self.old.faults self.new.faults result }
     {
-        let answer = read_at(&mut self.file, at, buf);
+        let Some(file) = &mut self.file else {
+            return Err(fault(&mut self.faults));
+        };
+        let answer = read_at(file, at, buf);
         counted(&mut self.faults, answer)
     }
 
     fn write(&mut self, at: u64, bytes: &[u8]) -> Result<(), Failed>
         ensures missing { IsMissing self.old → IsErr result }
-        ensures stays { IsMissing self.new ↔ IsMissing self.old }
+        ensures to_read { IsToRead self.old → IsErr result × (self.new.log.calls ≡ self.old.log.calls) }
+        ensures stays { SameOpening self.old self.new }
+        ensures calls { Makes self.old.log.calls (Call.Write at bytes.now) self.new.log.calls result }
         ensures cause { HasCause self.old.faults self.new.faults result }
     {
-        let answer = write_at(&mut self.file, at, bytes);
+        if !self.writable {
+            return Err(fault(&mut self.faults));
+        }
+        let Some(file) = &mut self.file else {
+            return Err(fault(&mut self.faults));
+        };
+        let answer = write_at(file, at, bytes);
+        self.log = self.log.then(&Note::Write(at, bytes, answer.is_ok()));
         counted(&mut self.faults, answer)
     }
 
     fn sync(&mut self) -> Result<(), Failed>
         ensures missing { IsMissing self.old → IsErr result }
-        ensures stays { IsMissing self.new ↔ IsMissing self.old }
+        ensures to_read { IsToRead self.old → IsErr result × (self.new.log.calls ≡ self.old.log.calls) }
+        ensures stays { SameOpening self.old self.new }
+        ensures calls { Makes self.old.log.calls Call.Sync self.new.log.calls result }
         ensures cause { HasCause self.old.faults self.new.faults result }
     {
-        let answer = sync(&mut self.file);
+        if !self.writable {
+            return Err(fault(&mut self.faults));
+        }
+        let Some(file) = &self.file else {
+            return Err(fault(&mut self.faults));
+        };
+        let answer = file.sync_all();
+        self.log = self.log.then(&Note::Sync(answer.is_ok()));
         counted(&mut self.faults, answer)
     }
 
     fn set_len(&mut self, len: u64) -> Result<(), Failed>
         ensures missing { IsMissing self.old → IsErr result }
-        ensures stays { IsMissing self.new ↔ IsMissing self.old }
+        ensures to_read { IsToRead self.old → IsErr result × (self.new.log.calls ≡ self.old.log.calls) }
+        ensures stays { SameOpening self.old self.new }
+        ensures calls { Makes self.old.log.calls (Call.SetLen len) self.new.log.calls result }
         ensures cause { HasCause self.old.faults self.new.faults result }
     {
-        let answer = set_len(&mut self.file, len);
+        if !self.writable {
+            return Err(fault(&mut self.faults));
+        }
+        let Some(file) = &self.file else {
+            return Err(fault(&mut self.faults));
+        };
+        let answer = file.set_len(len);
+        self.log = self.log.then(&Note::SetLen(len, answer.is_ok()));
         counted(&mut self.faults, answer)
     }
 }

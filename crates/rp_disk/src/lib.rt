@@ -4,6 +4,7 @@
 mod call;
 mod disk;
 mod file;
+mod log;
 mod mem;
 mod record;
 mod stops;
@@ -12,4 +13,6 @@ pub use call::Call;
 pub use disk::Disk;
 pub use file::FileDisk;
 pub use mem::MemDisk;
-pub use stops::{moments_law, one_call_law, opening_law, settled_law, stops_law};
+pub use stops::{
+    any_moment_law, moments_law, one_call_law, opening_law, settled_law, shown_law, stops_law,
+};

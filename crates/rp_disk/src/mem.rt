@@ -1,8 +1,8 @@
-ghost use Rattle.std.specs.Prelude.{◌≡◌, ◌+◌, ◌-◌, ◌^◌, ◌≤◌, ◌<◌, ◌⊎◌, ◌++◌, ◌∷◌, [], ℕ, List, Some, min, length, vec_len, IsTrue, Contains, OnOk, OnErr, ◌↔◌, count_by};
+ghost use Rattle.std.specs.Prelude.{◌≡◌, ◌+◌, ◌-◌, ◌^◌, ◌≤◌, ◌<◌, ◌⊎◌, ◌++◌, ◌∷◌, [], ℕ, List, Some, min, map, length, vec_len, IsTrue, Contains, OnOk, OnErr, ◌↔◌, count_by};
 ghost use Rattle.rp_disk.specs.Calls.{overwritten, is_write as is_write_call};
 ghost use Rattle.rp_disk.specs.History.{shown};
 ghost use Rattle.rp_disk.specs.Kept.{writes_fit};
-ghost use Rattle.rp_disk.specs.Record.{recorded};
+ghost use Rattle.rp_disk.specs.Record.{first_bytes, recorded, history_kept};
 
 use crate::record::Record;
 use crate::{Call, Disk};
@@ -18,23 +18,58 @@ pub struct MemDisk {
     notes: Record,
     // the numbers of the calls that are to fail, from 1 over all five calls
     fail: List<u64>,
+    // how many calls pass before all are to fail
+    fuse: u64,
     // how many calls came, how many of them failed, passed the end, found no memory
     made: u64,
     faults: u64,
     strays: u64,
     starved: u64,
-    ghost shows: { shown (recorded bytes.items notes) ≡ bytes.items },
-    ghost fits: { IsTrue (writes_fit (recorded bytes.items notes)) },
+    ghost shows: { shown (history_kept bytes.items notes) ≡ bytes.items },
+    ghost fits: { IsTrue (writes_fit (history_kept bytes.items notes)) },
 }
 
 impl MemDisk {
-    ghost use Rattle.rp_disk.specs.History.{Start, changing, shown, writes};
-    ghost use Rattle.rp_disk.specs.MemDisk.{history, starved, made, listed};
+    ghost use Rattle.rp_disk.specs.History.{Start, shown};
+    ghost use Rattle.rp_disk.specs.Made.{asked};
+    ghost use Rattle.rp_disk.specs.MemDisk.{first, calls, history, starved, made, listed, fuse};
 
     /// A disk that shows these bytes and fails the calls with these numbers, from 1. It takes no memory.
     pub fn new(alloc: Global, bytes: List<u8>, fail: List<u64>) -> Self
+        ensures first { first result ≡ bytes }
+        ensures calls { calls result ≡ [] }
         ensures history { history result ≡ Start bytes }
         ensures listed { listed result ≡ fail }
+        ensures fuse { fuse result ≡ 2 ^ 64 - 1 }
+        ensures made { made result ≡ 0 }
+        ensures starved { starved result ≡ 0 }
+        ensures faults { ⟦<MemDisk as Disk>⟧.faults result ≡ 0 }
+        ensures strays { ⟦<MemDisk as Disk>⟧.strays result ≡ 0 }
+    {
+        MemDisk::with(alloc, bytes, fail, u64::MAX)
+    }
+
+    /// A disk that shows these bytes, passes this many calls and then fails every call. It takes no memory.
+    pub fn fused(alloc: Global, bytes: List<u8>, passing: u64) -> Self
+        ensures first { first result ≡ bytes }
+        ensures calls { calls result ≡ [] }
+        ensures history { history result ≡ Start bytes }
+        ensures listed { listed result ≡ [] }
+        ensures fuse { fuse result ≡ passing }
+        ensures made { made result ≡ 0 }
+        ensures starved { starved result ≡ 0 }
+        ensures faults { ⟦<MemDisk as Disk>⟧.faults result ≡ 0 }
+        ensures strays { ⟦<MemDisk as Disk>⟧.strays result ≡ 0 }
+    {
+        MemDisk::with(alloc, bytes, List::new(alloc), passing)
+    }
+
+    fn with(alloc: Global, bytes: List<u8>, fail: List<u64>, passing: u64) -> Self
+        ensures first { first result ≡ bytes }
+        ensures calls { calls result ≡ [] }
+        ensures history { history result ≡ Start bytes }
+        ensures listed { listed result ≡ fail }
+        ensures fuse { fuse result ≡ passing }
         ensures made { made result ≡ 0 }
         ensures starved { starved result ≡ 0 }
         ensures faults { ⟦<MemDisk as Disk>⟧.faults result ≡ 0 }
@@ -45,6 +80,7 @@ impl MemDisk {
             bytes: bytes.into_vec(),
             notes: Record::new(alloc),
             fail,
+            fuse: passing,
             made: 0,
             faults: 0,
             strays: 0,
@@ -54,14 +90,14 @@ impl MemDisk {
 
     /// All changing calls, those that failed too.
     pub fn calls(&self) -> &[Call]
-        ensures { result.now ≡ changing (history self.now) }
+        ensures { result.now ≡ map asked (calls self.now) }
     {
         self.notes.calls()
     }
 
     /// How many of them are writes.
     pub fn writes(&self) -> u64
-        ensures { result ≡ writes (history self.now) }
+        ensures { result ≡ count_by is_write_call (map asked (calls self.now)) }
     {
         self.notes
             .calls()
@@ -86,12 +122,12 @@ impl MemDisk {
 }
 
 // Counts a call, and says whether it is one of those that are to fail.
-fn is_listed(made: &mut u64, fail: &List<u64>) -> bool
+fn is_to_fail(made: &mut u64, fail: &List<u64>, fuse: u64) -> bool
     ensures made { made.new ≡ min (made.old + 1) (2 ^ 64 - 1) }
-    ensures listed { IsTrue result ↔ Contains fail.now made.new }
+    ensures to_fail { IsTrue result ↔ (Contains fail.now made.new ⊎ (fuse < made.new)) }
 {
     *made = made.saturating_add(1);
-    fail.as_slice().contains(made)
+    fail.as_slice().contains(made) || fuse < *made
 }
 
 // Puts bytes in the place of others.
@@ -103,52 +139,58 @@ fn put(image: &mut Vec<u8>, at: usize, bytes: &[u8])
 }
 
 impl Disk for MemDisk {
-    ghost use Rattle.std.specs.Prelude.{IfOk, slice_range, ⊤};
-    ghost use Rattle.rp_base.specs.Faults.{HasCause};
-    ghost use Rattle.rp_disk.specs.History.{History, FailedAt, did, shown, CountsStray};
-    ghost use Rattle.rp_disk.specs.MemDisk.{history, faults_of, strays_of, Reads, Changes};
+    ghost use Rattle.std.specs.Prelude.{IfOk, nat_lt, ⊤};
+    ghost use Rattle.rp_base.specs.Faults.{CountsStray, HasCause};
+    ghost use Rattle.rp_base.specs.Image.{bytes_at};
+    ghost use Rattle.rp_disk.specs.History.{shown};
+    ghost use Rattle.rp_disk.specs.Made.{Makes};
+    ghost use Rattle.rp_disk.specs.MemDisk.{first, calls, history, faults_of, strays_of, Reads, Changes};
 
-    ghost told = { λ m. Some (recorded m.bytes.items m.notes) };
+    ghost first = { λ m. Some (first_bytes m.bytes.items m.notes) };
+
+    ghost calls = { λ m. recorded m.notes };
 
     ghost faults = { λ m. m.faults };
 
     ghost strays = { λ m. m.strays };
 
-    ghost use Rattle.rp_disk.specs.KeptShown.{shown_is_left};
+    ghost use Rattle.rp_disk.specs.KeptLawful.{kept_lawful};
 
-    ghost shown_may_be_left = { λ m. shown_is_left m.bytes.items m.notes.first.items m.notes.calls.items m.notes.oks.items m.fits };
+    ghost lawful = { λ m. kept_lawful m.bytes.items m.notes.first.items m.notes.calls.items m.notes.oks.items m.fits };
 
     fn faults(&self) -> u64 {
         self.faults
     }
 
     fn len(&mut self) -> Result<u64, Failed>
-        ensures told { history self.new ≡ history self.old }
+        ensures first { first self.new ≡ first self.old }
+        ensures calls { calls self.new ≡ calls self.old }
         ensures len { IfOk result (λ n. n ≡ length (shown (history self.old))) }
         ensures strays { strays_of self.new ≡ strays_of self.old }
         ensures cause { HasCause (faults_of self.old) (faults_of self.new) result }
         ensures exact { Reads self.old self.new ⊤ result }
     {
-        if is_listed(&mut self.made, &self.fail) {
+        if is_to_fail(&mut self.made, &self.fail, self.fuse) {
             return Err(fault(&mut self.faults));
         }
         Ok(self.bytes.len() as u64)
     }
 
     fn read(&mut self, at: u64, buf: &mut [u8]) -> Result<(), Failed>
-        ensures told { history self.new ≡ history self.old }
+        ensures first { first self.new ≡ first self.old }
+        ensures calls { calls self.new ≡ calls self.old }
         ensures range { OnOk result (at + length buf.old ≤ length (shown (history self.old))) }
-        ensures bytes { OnOk result (buf.new ≡ slice_range (shown (history self.old)) at (at + length buf.old)) }
-        ensures strays { CountsStray (at + length buf.old) (length (shown (history self.old))) (strays_of self.old) (strays_of self.new) }
+        ensures bytes { OnOk result (buf.new ≡ bytes_at (shown (history self.old)) at (length buf.old)) }
+        ensures strays { CountsStray (nat_lt (length (shown (history self.old))) (at + length buf.old)) (strays_of self.old) (strays_of self.new) }
         ensures cause { HasCause (faults_of self.old) (faults_of self.new) result }
         ensures exact { Reads self.old self.new (at + length buf.old ≤ length (shown (history self.old))) result }
     {
-        let listed = is_listed(&mut self.made, &self.fail);
+        let failing = is_to_fail(&mut self.made, &self.fail, self.fuse);
         let inside = is_inside(at, buf.len(), self.bytes.len());
         if !inside {
             self.strays = self.strays.saturating_add(1);
         }
-        if listed || !inside {
+        if failing || !inside {
             return Err(fault(&mut self.faults));
         }
         let at = at as usize;
@@ -157,19 +199,19 @@ impl Disk for MemDisk {
     }
 
     fn write(&mut self, at: u64, bytes: &[u8]) -> Result<(), Failed>
-        ensures done { OnOk result (history self.new ≡ did (history self.old) (Call.Write at bytes.now)) }
-        ensures failed { OnErr result (FailedAt (history self.old) (Call.Write at bytes.now) (Some (history self.new))) }
+        ensures first { first self.new ≡ first self.old }
+        ensures calls { Makes (calls self.old) (Call.Write at bytes.now) (calls self.new) result }
         ensures range { OnOk result (at + length bytes.now ≤ length (shown (history self.old))) }
-        ensures strays { CountsStray (at + length bytes.now) (length (shown (history self.old))) (strays_of self.old) (strays_of self.new) }
+        ensures strays { CountsStray (nat_lt (length (shown (history self.old))) (at + length bytes.now)) (strays_of self.old) (strays_of self.new) }
         ensures cause { HasCause (faults_of self.old) (faults_of self.new) result }
         ensures exact { Changes self.old self.new (Call.Write at bytes.now) (at + length bytes.now ≤ length (shown (history self.old))) result }
     {
-        let listed = is_listed(&mut self.made, &self.fail);
+        let failing = is_to_fail(&mut self.made, &self.fail, self.fuse);
         let inside = is_inside(at, bytes.len(), self.bytes.len());
         if !inside {
             self.strays = self.strays.saturating_add(1);
         }
-        let ok = inside && !listed;
+        let ok = inside && !failing;
         let copy = match bytes.to_vec(self.alloc) {
             Ok(copy) => copy,
             Err(_) => return Err(starve(&mut self.faults, &mut self.starved)),
@@ -193,13 +235,13 @@ impl Disk for MemDisk {
     }
 
     fn sync(&mut self) -> Result<(), Failed>
-        ensures done { OnOk result (history self.new ≡ did (history self.old) Call.Sync) }
-        ensures failed { OnErr result (FailedAt (history self.old) Call.Sync (Some (history self.new))) }
+        ensures first { first self.new ≡ first self.old }
+        ensures calls { Makes (calls self.old) Call.Sync (calls self.new) result }
         ensures strays { strays_of self.new ≡ strays_of self.old }
         ensures cause { HasCause (faults_of self.old) (faults_of self.new) result }
         ensures exact { Changes self.old self.new Call.Sync ⊤ result }
     {
-        let ok = !is_listed(&mut self.made, &self.fail);
+        let ok = !is_to_fail(&mut self.made, &self.fail, self.fuse);
         if self
             .notes
             .note(self.alloc, self.bytes.as_slice(), Call::Sync, ok)
@@ -214,13 +256,13 @@ impl Disk for MemDisk {
     }
 
     fn set_len(&mut self, len: u64) -> Result<(), Failed>
-        ensures done { OnOk result (history self.new ≡ did (history self.old) (Call.SetLen len)) }
-        ensures failed { OnErr result (FailedAt (history self.old) (Call.SetLen len) (Some (history self.new))) }
+        ensures first { first self.new ≡ first self.old }
+        ensures calls { Makes (calls self.old) (Call.SetLen len) (calls self.new) result }
         ensures strays { strays_of self.new ≡ strays_of self.old }
         ensures cause { HasCause (faults_of self.old) (faults_of self.new) result }
         ensures exact { Changes self.old self.new (Call.SetLen len) ⊤ result }
     {
-        let ok = !is_listed(&mut self.made, &self.fail);
+        let ok = !is_to_fail(&mut self.made, &self.fail, self.fuse);
         let size = self.bytes.len();
         let new_size = len as usize;
         if ok && self.bytes.reserve(new_size.saturating_sub(size)).is_err() {

@@ -1,4 +1,4 @@
-ghost use Rattle.std.specs.Prelude.{◌≡◌, ◌∷◌, ◌++◌, [], ℕ, List, length, OnOk, OnErr};
+ghost use Rattle.std.specs.Prelude.{◌≡◌, ◌∷◌, ◌++◌, [], ℕ, List, length, map, OnOk, OnErr};
 
 use crate::Call;
 use std::alloc::{AllocError, Global};
@@ -15,12 +15,15 @@ pub(crate) struct Record {
 }
 
 impl Record {
-    ghost use Rattle.rp_disk.specs.History.{Start, changing};
-    ghost use Rattle.rp_disk.specs.Kept.{noted};
-    ghost use Rattle.rp_disk.specs.Record.{recorded};
+    ghost use Rattle.rp_disk.specs.History.{Start, shown};
+    ghost use Rattle.rp_disk.specs.Made.{asked};
+    ghost use Rattle.rp_disk.specs.Kept.{answered, noted};
+    ghost use Rattle.rp_disk.specs.Record.{first_bytes, recorded, history_kept};
 
     pub(crate) fn new(alloc: Global) -> Self
-        ensures { (bytes : List ℕ) → recorded bytes result ≡ Start bytes }
+        ensures first { (image : List ℕ) → first_bytes image result ≡ image }
+        ensures calls { recorded result ≡ [] }
+        ensures history { (image : List ℕ) → history_kept image result ≡ Start image }
     {
         Record {
             first: Vec::new(alloc),
@@ -30,24 +33,27 @@ impl Record {
     }
 
     pub(crate) fn calls(&self) -> &[Call]
-        ensures { (bytes : List ℕ) → result.now ≡ changing (recorded bytes self.now) }
+        ensures { result.now ≡ map asked (recorded self.now) }
     {
         self.calls.as_slice()
     }
 
-    // Adds a call and its answer, at a time when the disk shows these bytes.
+    // Adds a call and its answer, at a time when the disk shows this image.
     pub(crate) fn note(
         &mut self,
         alloc: Global,
-        bytes: &[u8],
+        image: &[u8],
         call: Call,
         ok: bool,
     ) -> Result<(), AllocError>
-        ensures done { OnOk result ((after : List ℕ) → recorded after self.new ≡ noted (recorded bytes.now self.old) call ok) }
-        ensures failed { OnErr result (recorded bytes.now self.new ≡ recorded bytes.now self.old) }
+        ensures first { OnOk result ((after : List ℕ) → first_bytes after self.new ≡ first_bytes image.now self.old) }
+        ensures calls { OnOk result (recorded self.new ≡ recorded self.old ++ answered (shown (history_kept image.now self.old)) call ok ∷ []) }
+        ensures history { OnOk result ((after : List ℕ) → history_kept after self.new ≡ noted (history_kept image.now self.old) call ok) }
+        ensures same_first { OnErr result (first_bytes image.now self.new ≡ first_bytes image.now self.old) }
+        ensures same_calls { OnErr result (recorded self.new ≡ recorded self.old) }
     {
         if self.calls.is_empty() {
-            self.first = bytes.to_vec(alloc)?;
+            self.first = image.to_vec(alloc)?;
         }
         self.oks.reserve(1)?;
         self.calls.push(call)?;

@@ -1,7 +1,8 @@
-ghost use Rattle.std.specs.Prelude.{List, ℕ, ◌≡◌, [], ◌∷◌, ◌⊎◌, ◌↔◌, ◌+◌, ◌≤◌, length, take, drop};
+ghost use Rattle.std.specs.Prelude.{List, Option, ◌++◌, ℕ, ◌≡◌, [], ◌∷◌, ◌⊎◌, ◌↔◌, ◌+◌, ◌≤◌, length, take, drop};
 ghost use Rattle.rp_disk.specs.Stops.{Agrees, IsFrontOf, Leaves};
-ghost use Rattle.rp_disk.specs.History.{History, Failed, IsSettled, LeftSince, MayLeave, did, made_since, moment, shown};
-ghost use Rattle.rp_disk.specs.Runs.{Went};
+ghost use Rattle.rp_disk.specs.History.{History, Failed, IsLawful, IsSettled, LeftSince, MayLeave, did, made_since, moment, shown};
+ghost use Rattle.rp_disk.specs.Made.{Made, dones};
+ghost use Rattle.rp_disk.specs.Runs.{AtAnyMoment, AtAnyMomentBehindSync, EndsSettled, MadeFirst, Went};
 ghost use Rattle.rp_disk.specs.declared.call.Call.{Call};
 
 /// The law of a disk. Let nothing be pending at a start, and let each call since but the last have answered Ok. Then
@@ -45,4 +46,20 @@ pub fn moments_law()
 pub fn settled_law()
     ensures synced { (history : History) → IsSettled (did history Call.Sync) }
     ensures left { (history : History) (image : List ℕ) → IsSettled history → MayLeave history image → image ≡ shown history }
+{}
+
+/// What a lawful disk shows is among what a stop now may leave.
+pub fn shown_law()
+    ensures { (history : History) → IsLawful history → MayLeave history (shown history) }
+{}
+
+/// The law for callers: where since the old calls the first of the planned were made, at any moment a stop leaves what
+/// it may leave of those made by then. Nothing is pending at the start; or the calls begin with a sync, and then
+/// something may be. Where they end with a sync and were all done whole, nothing is pending at the end.
+pub fn any_moment_law()
+    ensures settled { (first : Option (List ℕ)) (old new : List Made) (plan : List Call) → MadeFirst old plan new → AtAnyMoment first old plan new }
+    ensures behind_sync { (first : Option (List ℕ)) (old new : List Made) (plan : List Call) → MadeFirst old (Call.Sync ∷ plan) new
+        → AtAnyMomentBehindSync first old plan new }
+    ensures end { (first : Option (List ℕ)) (old new : List Made) (calls : List Call) → new ≡ old ++ dones (calls ++ Call.Sync ∷ [])
+        → EndsSettled first old (calls ++ Call.Sync ∷ []) new }
 {}

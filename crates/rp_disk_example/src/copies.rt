@@ -1,8 +1,6 @@
-ghost use Rattle.std.specs.Prelude.{◌≡◌, Some, ◌+◌, ◌*◌, ◌<◌, ◌^◌, ◌∷◌, length, IfSome, OnOk, OnErr};
+ghost use Rattle.std.specs.Prelude.{◌≡◌, ◌+◌, ◌*◌, ◌<◌, ◌^◌, ◌∷◌, length, OnOk};
 ghost use Rattle.rp_base.specs.Faults.{HasCause};
-ghost use Rattle.rp_disk.specs.Calls.{all_done};
-ghost use Rattle.rp_disk.specs.History.{IsSettled, all_did, shown};
-ghost use Rattle.rp_disk.specs.Runs.{AtAnyMoment, AtAnyMomentBehindSync, FailedIn};
+ghost use Rattle.rp_disk.specs.Runs.{AtAnyMoment, AtAnyMomentBehindSync, EndsSettled, Runs};
 ghost use Rattle.rp_disk_example.specs.Copies.{two_writes, row_of, settled_row};
 
 use rp_base::Failed;
@@ -10,8 +8,8 @@ use rp_disk::{Call, Disk};
 
 // The calls of `two_copies`.
 fn make_two<D: Disk>(disk: &mut D, first: u64, second: u64, bytes: &[u8]) -> Result<(), Failed>
-    ensures did { IfSome (D.told disk.old) (λ start. OnOk result (D.told disk.new ≡ Some (all_did start (two_writes first second bytes.now)))) }
-    ensures failed { IfSome (D.told disk.old) (λ start. OnErr result (FailedIn start (two_writes first second bytes.now) (D.told disk.new))) }
+    ensures first { D.first disk.new ≡ D.first disk.old }
+    ensures ran { Runs (D.calls disk.old) (two_writes first second bytes.now) (D.calls disk.new) result }
     ensures cause { HasCause (D.faults disk.old) (D.faults disk.new) result }
 {
     disk.write(first, bytes)?;
@@ -28,9 +26,10 @@ pub fn two_copies<D: Disk>(
     second: u64,
     bytes: &[u8],
 ) -> Result<(), Failed>
-    ensures done { IfSome (D.told disk.old) (λ start. OnOk result
-        (IfSome (D.told disk.new) (λ now. IsSettled now × (shown now ≡ all_done (shown start) (two_writes first second bytes.now))))) }
-    ensures any_moment { IfSome (D.told disk.old) (λ start. IsSettled start → AtAnyMoment start (two_writes first second bytes.now) (D.told disk.new)) }
+    ensures first { D.first disk.new ≡ D.first disk.old }
+    ensures ran { Runs (D.calls disk.old) (two_writes first second bytes.now) (D.calls disk.new) result }
+    ensures end { OnOk result (EndsSettled (D.first disk.old) (D.calls disk.old) (two_writes first second bytes.now) (D.calls disk.new)) }
+    ensures any_moment { AtAnyMoment (D.first disk.old) (D.calls disk.old) (two_writes first second bytes.now) (D.calls disk.new) }
     ensures cause { HasCause (D.faults disk.old) (D.faults disk.new) result }
 {
     make_two(disk, first, second, bytes)
@@ -39,8 +38,8 @@ pub fn two_copies<D: Disk>(
 // Writes the bytes this often, one behind the other.
 fn write_row<D: Disk>(disk: &mut D, at: u64, count: u64, bytes: &[u8]) -> Result<(), Failed>
     requires { at + count * length bytes.now < 2 ^ 64 }
-    ensures did { IfSome (D.told disk.old) (λ start. OnOk result (D.told disk.new ≡ Some (all_did start (row_of at count bytes.now)))) }
-    ensures failed { IfSome (D.told disk.old) (λ start. OnErr result (FailedIn start (row_of at count bytes.now) (D.told disk.new))) }
+    ensures first { D.first disk.new ≡ D.first disk.old }
+    ensures ran { Runs (D.calls disk.old) (row_of at count bytes.now) (D.calls disk.new) result }
     ensures cause { HasCause (D.faults disk.old) (D.faults disk.new) result }
 {
     let size = bytes.len() as u64;
@@ -53,8 +52,8 @@ fn write_row<D: Disk>(disk: &mut D, at: u64, count: u64, bytes: &[u8]) -> Result
 // The calls of `fill`.
 fn make_row<D: Disk>(disk: &mut D, at: u64, count: u64, bytes: &[u8]) -> Result<(), Failed>
     requires { at + count * length bytes.now < 2 ^ 64 }
-    ensures did { IfSome (D.told disk.old) (λ start. OnOk result (D.told disk.new ≡ Some (all_did start (Call.Sync ∷ settled_row at count bytes.now)))) }
-    ensures failed { IfSome (D.told disk.old) (λ start. OnErr result (FailedIn start (Call.Sync ∷ settled_row at count bytes.now) (D.told disk.new))) }
+    ensures first { D.first disk.new ≡ D.first disk.old }
+    ensures ran { Runs (D.calls disk.old) (Call.Sync ∷ settled_row at count bytes.now) (D.calls disk.new) result }
     ensures cause { HasCause (D.faults disk.old) (D.faults disk.new) result }
 {
     disk.sync()?;
@@ -66,9 +65,10 @@ fn make_row<D: Disk>(disk: &mut D, at: u64, count: u64, bytes: &[u8]) -> Result<
 /// Writes the bytes this often, one behind the other, between two syncs.
 pub fn fill<D: Disk>(disk: &mut D, at: u64, count: u64, bytes: &[u8]) -> Result<(), Failed>
     requires { at + count * length bytes.now < 2 ^ 64 }
-    ensures done { IfSome (D.told disk.old) (λ start. OnOk result
-        (IfSome (D.told disk.new) (λ now. IsSettled now × (shown now ≡ all_done (shown start) (Call.Sync ∷ settled_row at count bytes.now))))) }
-    ensures any_moment { IfSome (D.told disk.old) (λ start. AtAnyMomentBehindSync start (settled_row at count bytes.now) (D.told disk.new)) }
+    ensures first { D.first disk.new ≡ D.first disk.old }
+    ensures ran { Runs (D.calls disk.old) (Call.Sync ∷ settled_row at count bytes.now) (D.calls disk.new) result }
+    ensures end { OnOk result (EndsSettled (D.first disk.old) (D.calls disk.old) (Call.Sync ∷ settled_row at count bytes.now) (D.calls disk.new)) }
+    ensures any_moment { AtAnyMomentBehindSync (D.first disk.old) (D.calls disk.old) (settled_row at count bytes.now) (D.calls disk.new) }
     ensures cause { HasCause (D.faults disk.old) (D.faults disk.new) result }
 {
     make_row(disk, at, count, bytes)

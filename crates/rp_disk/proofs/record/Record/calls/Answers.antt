@@ -1,8 +1,8 @@
 use Rattle.std.proofs.Common.{◌∙◌, sym}
-use Rattle.rp_disk.proofs.KeptLemmas.{changing-kept}
+use Rattle.rp_disk.proofs.KeptLemmas.{asked-answered}
 use Rattle.rp_disk.proofs.record.Record.calls.Goals as goal
 
 pub returns : goal.returns
-returns c = λ bytes.
+returns c =
     let r = c.args.self.now in
-    c.as_slice.ensures.value ∙ sym (changing-kept bytes r.first.items r.calls.items r.oks.items r.answers)
+    c.as_slice.ensures.value ∙ sym (asked-answered r.first.items r.calls.items r.oks.items r.answers)

@@ -1,13 +1,12 @@
 -- What calls, done whole or in part, leave of an image, byte by byte.
-use Rattle.std.proofs.Common.{ℕ, List, [], ◌∷◌, ◌++◌, ◌≡◌, ◌⊎◌, ◌+◌, ◌-◌, ◌<◌, ◌≤◌, true, nat_le, take, drop, length, get_or, refl, sym, ◌∙◌, ap, subst, inl, inr, ⊎_elim, arith}
+use Rattle.std.proofs.Common.{ℕ, List, [], ◌∷◌, ◌++◌, ◌≡◌, ◌⊎◌, ◌+◌, ◌-◌, ◌<◌, ◌≤◌, take, drop, length, get_or, refl, sym, ◌∙◌, ap, subst, inl, inr, ⊎_elim, arith}
 use Rattle.std.proofs.lemmas.List.{get_or-drop, get_or-append_right, ext_get_or, length-take-le}
 use Rattle.std.proofs.lemmas.Grind.{common_steps}
-use Rattle.std.proofs.lemmas.Bool.Decides.{nat_tests}
 use Rattle.rp_disk.specs.declared.call.Call.{Call}
 use Rattle.rp_disk.specs.declared.call.Call.TheVariants.{Write, Sync, SetLen}
-use Rattle.rp_disk.specs.Calls.{overwritten, resized, done}
+use Rattle.rp_disk.specs.Calls.{overwritten, resized, done, IsWithin}
 use Rattle.rp_disk.specs.Stops.{Each, SetsLength, EndsBefore, Spares, Agrees}
-use Rattle.rp_disk.specs.Kept.{fits}
+use Rattle.rp_disk.specs.History.{History, Start, Did, Failed, shown, settled_bytes, pending_calls, MayLeave, IsLawful}
 
 -- lists of calls
 
@@ -71,6 +70,12 @@ agrees-none image new agrees =
     let same : length new ≡ length image = ⊎_elim (λ same. same) (λ none. absurd none) agrees.size in
     ext_get_or 0 new image same (λ k lt. agrees.kept k (omega arith) lt tt)
 
+-- nor does a sync change it
+pub agrees-sync : (image new : List ℕ) → Agrees image (Sync ∷ []) new → new ≡ image
+agrees-sync image new agrees =
+    let same : length new ≡ length image = ⊎_elim (λ same. same) (λ none. absurd none) agrees.size in
+    ext_get_or 0 new image same (λ k lt. agrees.kept k (omega arith) lt tt)
+
 -- one after another
 pub agrees-then : (image middle new : List ℕ) (xs ys : List Call) → Agrees image xs middle → Agrees middle ys new → Agrees image (xs ++ ys) new
 agrees-then image middle new xs ys a b = record {
@@ -116,16 +121,28 @@ length-resized image len = grind (arith, common_steps)
 pub get_or-resized : (image : List ℕ) (len k : ℕ) → k < length image → k < len → get_or (resized image len) k 0 ≡ get_or image k 0
 get_or-resized image len k lt below = grind (arith, common_steps)
 
-le_of : (a b : ℕ) → nat_le a b ≡ true → a ≤ b
-le_of a b is = grind (arith, nat_tests)
-
 -- a call that was done whole is one of the things that a stop may leave of it
-pub agrees-done : (image : List ℕ) (call : Call) → fits image call ≡ true → Agrees image (call ∷ []) (done image call)
-agrees-done image (Write at bytes) fit =
-    let inside : at + length bytes ≤ length image = le_of (at + length bytes) (length image) fit in
+pub agrees-done : (image : List ℕ) (call : Call) → IsWithin (length image) call → Agrees image (call ∷ []) (done image call)
+agrees-done image (Write at bytes) inside =
     record { size = inl (length-overwritten image at bytes inside); kept = λ k lt lt' spares. get_or-overwritten image at bytes k inside spares.0 }
-agrees-done image Sync fit = agrees-same image (Sync ∷ [])
-agrees-done image (SetLen len) fit = record {
+agrees-done image Sync inside = agrees-same image (Sync ∷ [])
+agrees-done image (SetLen len) inside = record {
   size = inr (inl (length-resized image len));
   kept = λ k lt lt' spares. get_or-resized image len k lt (omega (arith, length-resized image len));
 }
+
+-- what a lawful disk shows is among what a stop now may leave
+pub shown_left : (history : History) → IsLawful history → MayLeave history (shown history)
+shown_left (Start bytes) lawful = agrees-same bytes []
+shown_left (Did before (Write at bytes)) lawful =
+    agrees-then (settled_bytes before) (shown before) (done (shown before) (Write at bytes)) (pending_calls before) (Write at bytes ∷ [])
+    (shown_left before lawful.0) (agrees-done (shown before) (Write at bytes) lawful.1)
+shown_left (Did before Sync) lawful = agrees-same (shown before) []
+shown_left (Did before (SetLen len)) lawful =
+    agrees-then (settled_bytes before) (shown before) (done (shown before) (SetLen len)) (pending_calls before) (SetLen len ∷ [])
+    (shown_left before lawful.0) (agrees-done (shown before) (SetLen len) lawful.1)
+shown_left (Failed before (Write at bytes) after) lawful =
+    agrees-then (settled_bytes before) (shown before) after (pending_calls before) (Write at bytes ∷ []) (shown_left before lawful.0) lawful.1
+shown_left (Failed before Sync after) lawful = subst (MayLeave before) (sym (agrees-sync (shown before) after lawful.1)) (shown_left before lawful.0)
+shown_left (Failed before (SetLen len) after) lawful =
+    agrees-then (settled_bytes before) (shown before) after (pending_calls before) (SetLen len ∷ []) (shown_left before lawful.0) lawful.1
