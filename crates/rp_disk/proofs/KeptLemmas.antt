@@ -3,7 +3,7 @@ use Rattle.std.proofs.Common.{◌≡◌, ℕ, ◌<◌, List, [], ◌∷◌, ◌+
 use Rattle.rp_disk.specs.declared.call.Call.{Call}
 use Rattle.rp_disk.specs.Calls.{done}
 use Rattle.rp_disk.specs.History.{History, Start, Did, Failed, shown}
-use Rattle.rp_disk.specs.Made.{Made, Done, Broke, asked, history_of}
+use Rattle.rp_disk.specs.Made.{Done, Broke, asked, history_of}
 use Rattle.rp_disk.specs.Kept.{answered, noted, all_answered, first_kept}
 use Rattle.rp_disk.specs.KeptLawful.{replayed, kept, after-answered, history-kept}
 

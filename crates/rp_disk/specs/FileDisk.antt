@@ -1,5 +1,5 @@
 -- What a file as a disk is, from outside.
-use Rattle.std.specs.Prelude.{ℕ, List, drop, ◌≡◌, ◌↔◌, Option, Some, None, false}
+use Rattle.std.specs.Prelude.{◌≡◌, ◌↔◌, None, false}
 use Rattle.rp_disk.specs.declared.file.FileDisk.{FileDisk}
 
 -- it couldn't be opened

@@ -1,5 +1,5 @@
 -- What a disk was asked to do: its changing calls with their answers.
-use Rattle.std.specs.Prelude.{ℕ, List, [], ◌∷◌, ◌++◌, ◌≡◌, ◌⊎◌, ◌+◌, ◌<◌, map, length, Option, Some, None, Result, OnOk, OnErr}
+use Rattle.std.specs.Prelude.{ℕ, List, [], ◌∷◌, ◌++◌, ◌≡◌, ◌⊎◌, ◌+◌, map, Option, Some, None, Result, OnOk, OnErr}
 use Rattle.rp_disk.specs.declared.call.Call.{Call}
 use Rattle.rp_disk.specs.History.{History, Start, Did, Failed}
 

@@ -1,5 +1,5 @@
 -- How the logic stores calls with their answers.
-use Rattle.std.specs.Prelude.{◌≡◌, ℕ, List, [], true, false, cond, ◌==◌, refl}
+use Rattle.std.specs.Prelude.{◌≡◌, ℕ, List, [], cond, ◌==◌, refl}
 use Rattle.std.specs.Coded.{Coded, code_by, coded×, coded_ℕ, coded_list}
 use Rattle.rp_disk.specs.declared.call.Call.TheVariants.{Write, Sync, SetLen}
 use Rattle.rp_disk.specs.Made.{Made, Done, Broke}

@@ -1,5 +1,5 @@
 -- Calls that leave bytes alone.
-use Rattle.std.specs.Prelude.{ℕ, List, ◌⊎◌, ◌+◌, ◌<◌, ◌≤◌, length}
+use Rattle.std.specs.Prelude.{ℕ, ◌⊎◌, ◌+◌, ◌<◌, ◌≤◌, length}
 use Rattle.rp_disk.specs.declared.call.Call.{Call}
 use Rattle.rp_disk.specs.declared.call.Call.TheVariants.{Write, Sync, SetLen}
 
