@@ -11,7 +11,8 @@ use Rattle.rp_place.specs.declared.fit.Candidate.{Candidate}
 use Rattle.rp_place.specs.declared.fit.New.{New}
 use Rattle.rp_place.specs.declared.fit.PlaceFault.{PlaceFault}
 use Rattle.rp_place.specs.declared.fit.PlaceFault.TheVariants.{Room, Slot}
-use Rattle.rp_place.specs.Placing.{IsPlacement, before_all, best_of, kept, needs_in, placed, placed_in, slotted}
+use Rattle.rp_place.specs.Facts.{IsPlacement, needs_in}
+use Rattle.rp_place.specs.Placing.{before_all, best_of, placed, placed_in, slotted}
 use Rattle.rp_place.proofs.Best.{IsRoomy, best_roomy}
 use Rattle.rp_place.proofs.Walk.{Answer}
 
@@ -106,8 +107,10 @@ fault_in areas t (n ∷ ns) rooms = cond_both (int_le n.priority t) (best_next a
     (λ _. best_fault areas t rooms n ns (best_of areas rooms n.need) (fault_in areas t ns))
     (λ _. before_fault None (placed_in areas t rooms ns) (fault_in areas t ns rooms))
 
-pub never_slot : (areas : List Area) (news : List New) (t : ℤ) → IfErr (placed areas news t) NotSlot
-never_slot areas news t = fault_in areas t news (map (λ (a : Area). a.span - a.used) areas)
+pub no_slot : (areas : List Area) (news : List New) (t : ℤ) (file : ℕ) → placed areas news t ≢ Err (Slot file)
+no_slot areas news t file is =
+    let other : NotSlot (Slot file) = subst (λ (answer : Answer). IfErr answer NotSlot) is (fault_in areas t news (map (λ (a : Area). a.span - a.used) areas)) in
+    other file refl
 
 -- no more are kept than slots are free
 few_at : (o : Option New) (places others : List (Option ℕ)) → option_map_or (λ n. Err (Slot n.file)) o (Ok others) ≡ Ok places → o ≡ None
@@ -119,6 +122,6 @@ beyond_few [] free is = omega arith
 beyond_few (n ∷ ns) zero is = absurd (let e : Some n ≡ None = is in cc)
 beyond_few (n ∷ ns) (suc free) is = omega (arith, beyond_few ns free is)
 
-pub few : (those_kept : List New) (free : ℕ) (answer : Answer) (places : List (Option ℕ)) → slotted those_kept free answer ≡ Ok places → length those_kept ≤ free
-few those_kept free (Ok others) places is = beyond_few those_kept free (few_at (slice_get those_kept free) places others is)
-few those_kept free (Err fault) places is = absurd (let e : ◌≡◌ {A = Answer} (Err fault) (Ok places) = is in cc)
+pub few : (kept_news : List New) (free : ℕ) (answer : Answer) (places : List (Option ℕ)) → slotted kept_news free answer ≡ Ok places → length kept_news ≤ free
+few kept_news free (Ok others) places is = beyond_few kept_news free (few_at (slice_get kept_news free) places others is)
+few kept_news free (Err fault) places is = absurd (let e : ◌≡◌ {A = Answer} (Err fault) (Ok places) = is in cc)

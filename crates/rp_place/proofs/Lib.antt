@@ -1,4 +1,8 @@
-pub mod Best
-pub mod Keeps
-pub mod Thresholds
-pub mod Walk
+mod Best
+mod Keeps
+mod Least
+mod Minima
+pub mod Public
+mod Settled
+mod Thresholds
+mod Walk

@@ -10,7 +10,8 @@ use Rattle.rp_areas.specs.declared.gaps.Area.{Area}
 use Rattle.rp_place.specs.declared.fit.New.{New}
 use Rattle.rp_place.specs.declared.fit.PlaceFault.{PlaceFault}
 use Rattle.rp_place.specs.declared.fit.PlaceFault.TheVariants.{Room, Slot}
-use Rattle.rp_place.specs.Placing.{before_all, best_of, kept, placed_in, slotted, tried, IsRefused}
+use Rattle.rp_place.specs.Facts.{IsRefused}
+use Rattle.rp_place.specs.Placing.{before_all, best_of, kept, placed_in, slotted, tried}
 
 -- two thresholds keep a definition alike
 abbrev pub KeepsAlike : ℤ → ℤ → New → Type 0
@@ -47,6 +48,12 @@ le_true a b h = truth (int_le a b) h.le
 pub le_false : (a b : ℤ) → b <ℤ a → int_le a b ≡ false
 le_false a b h = false_from_ne_true (int_le a b) (λ t. let back : a ≤ℤ b = le_z_yes (from_truth (int_le a b) t) in omega (arith, ints, back, h))
 
+pub le_of : (a b : ℤ) → int_le a b ≡ true → a ≤ℤ b
+le_of a b test = le_z_yes (from_truth (int_le a b) test)
+
+pub above_of : (a b : ℤ) → int_le a b ≡ false → b <ℤ a
+above_of a b test = by_lt_z b a (λ h. h) (λ h. absurd (false≢true (sym test ∙ le_true a b h)))
+
 -- no priority lies above h and up to t, so the thresholds from h to t lead to the same
 pub same_between : (areas : List Area) (news : List New) (free : ℕ) (t h u : ℤ) → All (λ (n : New). (n.priority ≤ℤ h) ⊎ (t <ℤ n.priority)) news → h ≤ℤ u → u ≤ℤ t
     → tried areas news free u ≡ tried areas news free t
@@ -60,9 +67,9 @@ no_slot : (o : Option New) (others places : List (Option ℕ)) → option_map_or
 no_slot None others places is = is
 no_slot (Some n) others places is = absurd (let e : ◌≡◌ {A = Result (List (Option ℕ)) PlaceFault} (Err (Slot n.file)) (Ok places) = is in cc)
 
-pub slotted_ok : (those_kept : List New) (free : ℕ) (answer : Result (List (Option ℕ)) PlaceFault) (places : List (Option ℕ)) → slotted those_kept free answer ≡ Ok places → answer ≡ Ok places
-slotted_ok those_kept free (Err fault) places is = is
-slotted_ok those_kept free (Ok others) places is = no_slot (slice_get those_kept free) others places is
+pub slotted_ok : (kept_news : List New) (free : ℕ) (answer : Result (List (Option ℕ)) PlaceFault) (places : List (Option ℕ)) → slotted kept_news free answer ≡ Ok places → answer ≡ Ok places
+slotted_ok kept_news free (Err fault) places is = is
+slotted_ok kept_news free (Ok others) places is = no_slot (slice_get kept_news free) others places is
 
 -- a priority lies at most at h or above t
 abbrev pub Side : ℤ → ℤ → New → Type 0

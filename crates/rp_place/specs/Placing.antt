@@ -1,12 +1,14 @@
 -- Where new partitions go (repart.d(5), Priority=: of what doesn't fit, the highest numbers are dropped first, those of 0 or lower never; the choice of the area is this project's own).
-use Rattle.std.specs.Prelude.{ℕ, ℤ, pos, ◌+◌, ◌-◌, ◌≤ℤ◌, ◌<ℤ◌, ◌≡◌, ◌^◌, ◌==◌, nat_lt, nat_le, if◌then◌else◌, max, Bool, false, ◌&&◌, ◌||◌, Option, Some, None, Result, Ok, Err, List, [], ◌∷◌, map, fold, filter, slice_get, slice_index, slice_set, IsOk, IsErr, ◌<◌, ◌≤◌, All, IfSome, is_some, length, int_le}
-use Rattle.std.specs.List.{enumerate_from, AllZip}
+use Rattle.std.specs.Prelude.{ℕ, ℤ, pos, ◌-◌, ◌-ℤ◌, ◌^◌, ◌==◌, nat_lt, nat_le, if◌then◌else◌, max, Bool, ◌&&◌, ◌||◌, Option, Some, None, Result, Ok, Err, is_ok, List, [], ◌∷◌, map, fold, filter, slice_get, slice_index, slice_set, int_le}
+use Rattle.std.specs.Int.{int_max}
+use Rattle.std.specs.List.{enumerate_from}
 use Rattle.std.specs.Option.{option_map_or}
 use Rattle.rp_areas.specs.declared.gaps.Area.{Area}
 use Rattle.rp_place.specs.declared.fit.Candidate.{Candidate}
 use Rattle.rp_place.specs.declared.fit.New.{New}
 use Rattle.rp_place.specs.declared.fit.PlaceFault.{PlaceFault}
 use Rattle.rp_place.specs.declared.fit.PlaceFault.TheVariants.{Room, Slot}
+use Rattle.rp_place.specs.declared.threshold.Placed.{Placed}
 
 -- an area, given with its place, and the grains that are available in it
 abbrev pub candidate_of : List ℕ → (ℕ × Area) → Candidate
@@ -49,33 +51,30 @@ kept news threshold = filter (λ n. int_le n.priority threshold) news
 
 -- the areas, where there is a slot for each that is kept, or else the first for which there is none
 abbrev pub slotted : List New → ℕ → Result (List (Option ℕ)) PlaceFault → Result (List (Option ℕ)) PlaceFault
-slotted those_kept free (Err fault) = Err fault
-slotted those_kept free (Ok places) = option_map_or (λ n. Err (Slot n.file)) (slice_get those_kept free) (Ok places)
+slotted kept_news free (Err fault) = Err fault
+slotted kept_news free (Ok places) = option_map_or (λ n. Err (Slot n.file)) (slice_get kept_news free) (Ok places)
 
 -- what a threshold leads to
 abbrev pub tried : List Area → List New → ℕ → ℤ → Result (List (Option ℕ)) PlaceFault
 tried areas news free threshold = slotted (kept news threshold) free (placed areas news threshold)
 
--- the greatest threshold from 0 to the greatest i32 that succeeds
-pub record IsKept (areas : List Area) (news : List New) (free : ℕ) (threshold : ℤ) : Type 0 where
-  pub low : pos 0 ≤ℤ threshold
-  pub high : threshold ≤ℤ pos (2 ^ 31 - 1)
-  pub succeeds : IsOk (tried areas news free threshold)
-  pub greatest : (other : ℤ) → threshold <ℤ other → other ≤ℤ pos (2 ^ 31 - 1) → IsErr (tried areas news free other)
+-- the thresholds that can differ in what they keep: the greatest i32, and each number just below a priority that occurs
+abbrev pub thresholds : List New → List ℤ
+thresholds news = pos (2 ^ 31 - 1) ∷ map (λ n. n.priority -ℤ pos 1) news
 
--- no threshold succeeds, and at 0 the fault is this one
-pub record IsRefused (areas : List Area) (news : List New) (free : ℕ) (fault : PlaceFault) : Type 0 where
-  pub none : (threshold : ℤ) → pos 0 ≤ℤ threshold → threshold ≤ℤ pos (2 ^ 31 - 1) → IsErr (tried areas news free threshold)
-  pub at_zero : tried areas news free (pos 0) ≡ Err fault
+-- whether a number is a threshold, from 0 to the greatest i32, that succeeds
+abbrev pub succeeds_at : List Area → List New → ℕ → ℤ → Bool
+succeeds_at areas news free threshold = (int_le (pos 0) threshold && int_le threshold (pos (2 ^ 31 - 1))) && is_ok (tried areas news free threshold)
 
--- the needs that are placed in an area
-abbrev pub needs_in : ℕ → List New → List (Option ℕ) → ℕ
-needs_in area [] places = 0
-needs_in area (n ∷ ns) [] = 0
-needs_in area (n ∷ ns) (p ∷ ps) = (if option_map_or (λ place. place == area) p false then n.need else 0) + needs_in area ns ps
+-- the greatest of these that succeeds, or 0
+abbrev pub kept_threshold : List Area → List New → ℕ → ℤ
+kept_threshold areas news free = fold int_max (pos 0) (filter (succeeds_at areas news free) (thresholds news))
 
--- what an answer keeps: each place is an area's, those of priority at most the threshold have one, and with what is used the needs placed in an area fit its span
-pub record IsPlacement (areas : List Area) (news : List New) (threshold : ℤ) (places : List (Option ℕ)) : Type 0 where
-  pub in_areas : All (λ p. IfSome p (λ place. place < length areas)) places
-  pub chosen : AllZip (λ (n : New) p. is_some p ≡ int_le n.priority threshold) news places
-  pub fits : (area : ℕ) → IfSome (slice_get areas area) (λ a. a.used + needs_in area news places ≤ a.span)
+-- areas with the threshold that they come from
+abbrev pub with_threshold : ℤ → Result (List (Option ℕ)) PlaceFault → Result Placed PlaceFault
+with_threshold threshold (Ok places) = Ok (record { threshold = threshold; areas = places })
+with_threshold threshold (Err fault) = Err fault
+
+-- the placement that is kept: what that threshold leads to
+abbrev pub settled : List Area → List New → ℕ → Result Placed PlaceFault
+settled areas news free = with_threshold (kept_threshold areas news free) (tried areas news free (kept_threshold areas news free))

@@ -1,7 +1,7 @@
-ghost use Rattle.std.specs.Prelude.{◌≡◌, ◌≢◌, ◌≤◌, ◌<◌, ◌-◌, ◌+◌, ℕ, length, All, IfErr, IfOk, IfSome, IsTrue, List, fold, max, map, Some};
+ghost use Rattle.std.specs.Prelude.{◌≡◌, ◌≤◌, ◌<◌, ◌-◌, length, All, IfOk, IfSome, fold, max, map, Some};
 ghost use Rattle.rp_base.specs.Answers.{Gives};
 ghost use Rattle.rp_areas.specs.declared.gaps.Area.{Area};
-ghost use Rattle.rp_place.specs.Placing.{IsPlacement, best_of, lesser as lesser_of, placed, precedes as precedes_test};
+ghost use Rattle.rp_place.specs.Placing.{best_of, lesser as lesser_of, placed, precedes as precedes_test};
 
 use rp_areas::Area;
 use rp_base::{List, Memory};
@@ -13,7 +13,7 @@ use thiserror::Error;
 pub struct New {
     /// Its place among the definitions.
     pub file: u16,
-    /// The least that it takes with its padding, in grains of 4,096 bytes.
+    /// The least that it takes, its minimum and that of its padding, in grains of 4,096 bytes.
     pub need: u64,
     /// Definitions of the highest numbers are dropped first, those of 0 or lower never (repart.d(5)).
     pub priority: i32,
@@ -22,13 +22,14 @@ pub struct New {
 /// Why the new definitions have no place.
 #[derive(Clone, Copy, Debug, PartialEq, Eq, Error)]
 pub enum PlaceFault {
-    /// No area has room for the definition; numbers in grains.
-    #[error("Room {file} {need} {largest}")]
+    /// No area has room for the definition's need, and `largest` is the most that is available in one, 0 where there is no
+    /// area; numbers in grains.
+    #[error("no area has room")]
     Room { file: u16, need: u64, largest: u64 },
     /// No slot is free for the definition.
-    #[error("Slot {file}")]
+    #[error("no slot is free")]
     Slot { file: u16 },
-    #[error("Memory")]
+    #[error("out of memory")]
     Memory,
 }
 
@@ -53,7 +54,8 @@ pub struct Candidate {
 
 /// The place in `areas` of the area of each new definition of priority at most the threshold: in order, each goes to
 /// the area least by what is available, first grain and place, among those with room for its need. Available is what
-/// the span has beyond the used grains and the needs placed before. It never answers `Slot`.
+/// the span has beyond the used grains and the needs placed before. Where one has no area, it answers `Room` for the
+/// first such one; it never answers `Slot`.
 pub fn place(
     alloc: Global,
     areas: &[Area],
@@ -62,9 +64,7 @@ pub fn place(
 ) -> Result<List<Option<u16>>, PlaceFault>
     requires used { All (λ a. a.used ≤ a.span) areas.now }
     requires few { length areas.now ≤ 65535 }
-    ensures placed { Gives PlaceFault.Memory (placed areas.now news.now threshold) result }
-    ensures placement { IfOk result (IsPlacement areas.now news.now threshold) }
-    ensures never_slot { IfErr result (λ e. (file : ℕ) → e ≢ PlaceFault.Slot file) }
+    ensures { Gives PlaceFault.Memory (placed areas.now news.now threshold) result }
 {
     walk(alloc, areas, news, threshold)?
 }

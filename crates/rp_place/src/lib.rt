@@ -2,6 +2,7 @@
 #![tactic(auto)]
 
 mod fit;
+pub mod law;
 mod threshold;
 
 pub use fit::{New, PlaceFault, place};

@@ -1,8 +1,9 @@
-ghost use Rattle.std.specs.Prelude.{◌≡◌, ◌≤◌, ◌<◌, ◌⊎◌, ◌≤ℤ◌, ◌<ℤ◌, ℕ, pos, length, slice_get, All, IfOk, IfErr, Ok, Err};
+ghost use Rattle.std.specs.Prelude.{◌≡◌, ◌≤◌, ◌<◌, ◌⊎◌, ◌≤ℤ◌, ◌<ℤ◌, pos, length, slice_get, All, IfOk};
 ghost use Rattle.std.specs.Option.{option_map};
 ghost use Rattle.rp_areas.specs.declared.gaps.Area.{Area};
 ghost use Rattle.rp_place.specs.declared.fit.New.{New};
-ghost use Rattle.rp_place.specs.Placing.{IsKept, IsPlacement, IsRefused, kept, placed, tried};
+ghost use Rattle.rp_base.specs.Answers.{Gives};
+ghost use Rattle.rp_place.specs.Placing.{kept, settled, tried};
 
 use crate::fit::walk;
 use crate::{New, PlaceFault};
@@ -28,11 +29,7 @@ pub fn settle(
 ) -> Result<Placed, PlaceFault>
     requires used { All (λ a. a.used ≤ a.span) areas.now }
     requires few { length areas.now ≤ 65535 }
-    ensures kept { IfOk result (λ p. IsKept areas.now news.now free_slots p.threshold) }
-    ensures placed { IfOk result (λ p. placed areas.now news.now p.threshold ≡ Ok p.areas) }
-    ensures placement { IfOk result (λ p. IsPlacement areas.now news.now p.threshold p.areas) }
-    ensures few { IfOk result (λ p. length (kept news.now p.threshold) ≤ free_slots) }
-    ensures refused { IfErr result (λ e. (e ≡ PlaceFault.Memory) ⊎ IsRefused areas.now news.now free_slots e) }
+    ensures { Gives PlaceFault.Memory (settled areas.now news.now free_slots) result }
 {
     let mut threshold = i32::MAX;
     loop {
