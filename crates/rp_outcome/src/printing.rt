@@ -1,0 +1,91 @@
+ghost use Rattle.std.specs.Prelude.{◌++◌, ◌∷◌, [], OnErr, OnOk, codes};
+ghost use Rattle.std.specs.Fmt.{decimal};
+ghost use Rattle.rp_outcome.specs.Output.{Finishes, PrintsAll, PrintsPart, Refuses, output};
+ghost use Rattle.rp_outcome.specs.Words.{words_text};
+
+use crate::refusal::{MOST, Refusal, Word};
+use crate::status::{DONE, MEMORY, SINK};
+use itoa::Buffer;
+use rp_base::Failed;
+use rp_io::Sink;
+
+/// Ends a command that is done with its text: prints it and answers `DONE`, or `SINK` where the sink failed.
+pub fn finish<K: Sink>(out: &mut K, text: &str) -> u8
+    ensures { Finishes (output K.told K.faults out.old) (output K.told K.faults out.new) text.now result }
+{
+    match print(out, text) {
+        Ok(()) => DONE,
+        Err(Failed) => SINK,
+    }
+}
+
+/// Ends a command that isn't done: prints the refusal's line and answers its status, which stays where the sink fails.
+pub fn refuse<K: Sink>(out: &mut K, refusal: &Refusal) -> u8
+    ensures { Refuses (output K.told K.faults out.old) (output K.told K.faults out.new) refusal.now result }
+{
+    if refusal.status == MEMORY {
+        return MEMORY;
+    }
+    let _ = print_line(out, refusal.status, &refusal.words);
+    refusal.status
+}
+
+#[tactic(auto, using(crate::proofs::Printed::then_all, crate::proofs::Printed::then_part, crate::proofs::Printed::part_more))]
+fn print_line<K: Sink>(out: &mut K, status: u8, words: &[Word; MOST]) -> Result<(), Failed>
+    ensures done { OnOk result (PrintsAll (output K.told K.faults out.old) (output K.told K.faults out.new)
+        (codes "error " ++ decimal status ++ words_text words.now ++ codes "\n")) }
+    ensures failed { OnErr result (PrintsPart (output K.told K.faults out.old) (output K.told K.faults out.new)
+        (codes "error " ++ decimal status ++ words_text words.now ++ codes "\n")) }
+{
+    print(out, "error ")?;
+    print_number(out, u64::from(status))?;
+    print_words(out, words)?;
+    print(out, "\n")
+}
+
+fn print_words<K: Sink>(out: &mut K, words: &[Word]) -> Result<(), Failed>
+    ensures done { OnOk result (PrintsAll (output K.told K.faults out.old) (output K.told K.faults out.new) (words_text words.now)) }
+    ensures failed { OnErr result (PrintsPart (output K.told K.faults out.old) (output K.told K.faults out.new) (words_text words.now)) }
+{
+    for word in words {
+        print_word(out, word)?;
+    }
+    Ok(())
+}
+
+// Prints a word behind a blank, if there is one.
+#[tactic(auto, using(crate::proofs::Printed::then_all, crate::proofs::Printed::then_part, crate::proofs::Printed::part_more), unfolding(crate::specs::Words::words_text))]
+fn print_word<K: Sink>(out: &mut K, word: &Word) -> Result<(), Failed>
+    ensures done { OnOk result (PrintsAll (output K.told K.faults out.old) (output K.told K.faults out.new)
+        (words_text (word.now ∷ []))) }
+    ensures failed { OnErr result (PrintsPart (output K.told K.faults out.old) (output K.told K.faults out.new)
+        (words_text (word.now ∷ []))) }
+{
+    match *word {
+        Word::Absent => Ok(()),
+        Word::Text(text) => {
+            print(out, " ")?;
+            print(out, text)
+        }
+        Word::Number(number) => {
+            print(out, " ")?;
+            print_number(out, number)
+        }
+    }
+}
+
+fn print_number<K: Sink>(out: &mut K, number: u64) -> Result<(), Failed>
+    ensures done { OnOk result (PrintsAll (output K.told K.faults out.old) (output K.told K.faults out.new) (decimal number)) }
+    ensures failed { OnErr result (PrintsPart (output K.told K.faults out.old) (output K.told K.faults out.new) (decimal number)) }
+{
+    let mut buffer = Buffer::new();
+    print(out, buffer.format(number))
+}
+
+// Prints a text, or a first part of it where the sink fails.
+fn print<K: Sink>(out: &mut K, text: &str) -> Result<(), Failed>
+    ensures done { OnOk result (PrintsAll (output K.told K.faults out.old) (output K.told K.faults out.new) text.now) }
+    ensures failed { OnErr result (PrintsPart (output K.told K.faults out.old) (output K.told K.faults out.new) text.now) }
+{
+    out.write(text.as_bytes())
+}
