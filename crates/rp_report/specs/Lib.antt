@@ -1,2 +1,4 @@
+pub mod Json
 pub mod Names
+pub mod Reports
 pub mod Tables

@@ -47,15 +47,15 @@ table_lines origin sectors table = table_line origin sectors table ++ flat_map r
 unfoldable pub same_text : Bool → List ℕ
 same_text same = if same then codes "same" else codes "differs"
 
-unfoldable pub mbr_text : Mbr → List ℕ
-mbr_text Same = codes " mbr=same"
-mbr_text Differs = codes " mbr=differs"
-mbr_text Foreign = codes " mbr=foreign"
+unfoldable pub mbr_word : Mbr → List ℕ
+mbr_word Same = codes "same"
+mbr_word Differs = codes "differs"
+mbr_word Foreign = codes "foreign"
 
 -- the line of the copies: whether each is what would be written for the table, and the state of the protective MBR
 unfoldable pub copies_line : Seen → List ℕ
 copies_line seen = codes "copies" ++ (codes " primary=" ++ same_text seen.primary_same) ++ (codes " backup=" ++ same_text seen.backup_same)
-    ++ mbr_text seen.mbr ++ codes "\n"
+    ++ (codes " mbr=" ++ mbr_word seen.mbr) ++ codes "\n"
 
 -- what is printed of an image that shows a table
 unfoldable pub show_bytes : Seen → List ℕ

@@ -1,6 +1,7 @@
 //! The texts that the program prints of tables.
 #![tactic(auto)]
 
+mod json;
 mod names;
 mod tables;
 

@@ -1,53 +1,71 @@
 ghost use Rattle.std.specs.Prelude.{◌≡◌, ◌≢◌, ◌++◌, IfOk, OnOk, string_bytes};
-ghost use Rattle.rp_report.specs.Tables.{copies_line, mbr_text, origin_text, row_line, same_text, show_bytes, table_line, table_lines};
+ghost use Rattle.rp_report.specs.Reports.{show_report};
+ghost use Rattle.rp_report.specs.Tables.{copies_line, mbr_word as mbr_word_of, origin_text, row_line, same_text, show_bytes};
+ghost use Rattle.rp_report.specs.Tables.{table_line, table_lines};
 
+use crate::json::show_json_text;
 use crate::names::{push_guid, push_hex, push_kind, push_name};
 use rp_base::{Mbr, Memory, Origin, Row, Seen, Table, Text};
 use std::alloc::{AllocError, Global};
 
 /// What `show` prints of an image that shows a table: a line for the table, one for each row in slot order, and one
-/// that tells how far the copies and the MBR are what would be written for it.
-#[tactic(auto, unfolding(crate::specs::Tables::show_bytes))]
-pub fn show_text(alloc: Global, seen: &Seen) -> Result<Text, Memory>
+/// that tells how far the copies and the MBR are what would be written for it. With `json` the same as one object.
+#[tactic(auto, unfolding(crate::specs::Reports::show_report))]
+pub fn show_text(alloc: Global, json: bool, seen: &Seen) -> Result<Text, Memory>
     requires { seen.now.origin ≢ Origin.Neither }
-    ensures { IfOk result (λ text. text ≡ show_bytes seen.now) }
+    ensures { IfOk result (λ text. text ≡ show_report json seen.now) }
+{
+    let text = if json {
+        show_json_text(alloc, seen)?
+    } else {
+        show_lines(alloc, seen)?
+    };
+    Ok(Text::from_string(text))
+}
+
+#[tactic(auto, unfolding(crate::specs::Tables::show_bytes))]
+fn show_lines(alloc: Global, seen: &Seen) -> Result<String, AllocError>
+    requires { seen.now.origin ≢ Origin.Neither }
+    ensures { IfOk result (λ text. string_bytes text ≡ show_bytes seen.now) }
 {
     let mut text = String::new(alloc);
     push_table(&mut text, seen.origin, seen.sectors, &seen.shown)?;
     push_copies(&mut text, seen)?;
-    Ok(Text::from_string(text))
+    Ok(text)
 }
 
 fn push_copies(text: &mut String, seen: &Seen) -> Result<(), AllocError>
     ensures { OnOk result (string_bytes text.new ≡ string_bytes text.old ++ copies_line seen.now) }
 {
     text.push_str("copies")?;
-    push_same(text, " primary=", seen.primary_same)?;
-    push_same(text, " backup=", seen.backup_same)?;
-    push_mbr(text, seen.mbr)?;
+    push_word(text, " primary=", same_word(seen.primary_same))?;
+    push_word(text, " backup=", same_word(seen.backup_same))?;
+    push_word(text, " mbr=", mbr_word(seen.mbr))?;
     text.push_str("\n")
 }
 
-#[tactic(auto, unfolding(crate::specs::Tables::same_text))]
-fn push_same(text: &mut String, what: &str, same: bool) -> Result<(), AllocError>
-    ensures { OnOk result (string_bytes text.new ≡ string_bytes text.old ++ (what.now ++ same_text same)) }
+fn push_word(text: &mut String, what: &str, word: &str) -> Result<(), AllocError>
+    ensures { OnOk result (string_bytes text.new ≡ string_bytes text.old ++ (what.now ++ word.now)) }
 {
     text.push_str(what)?;
-    if same {
-        text.push_str("same")
-    } else {
-        text.push_str("differs")
-    }
+    text.push_str(word)
 }
 
-#[tactic(auto, unfolding(crate::specs::Tables::mbr_text))]
-fn push_mbr(text: &mut String, mbr: Mbr) -> Result<(), AllocError>
-    ensures { OnOk result (string_bytes text.new ≡ string_bytes text.old ++ mbr_text mbr) }
+#[tactic(auto, unfolding(crate::specs::Tables::same_text))]
+pub fn same_word(same: bool) -> &'static str
+    ensures { result.now ≡ same_text same }
+{
+    if same { "same" } else { "differs" }
+}
+
+#[tactic(auto, unfolding(crate::specs::Tables::mbr_word))]
+pub fn mbr_word(mbr: Mbr) -> &'static str
+    ensures { result.now ≡ mbr_word_of mbr }
 {
     match mbr {
-        Mbr::Same => text.push_str(" mbr=same"),
-        Mbr::Differs => text.push_str(" mbr=differs"),
-        Mbr::Foreign => text.push_str(" mbr=foreign"),
+        Mbr::Same => "same",
+        Mbr::Differs => "differs",
+        Mbr::Foreign => "foreign",
     }
 }
 
@@ -67,7 +85,7 @@ fn push_table(
     Ok(())
 }
 
-fn origin_word(origin: Origin) -> &'static str
+pub fn origin_word(origin: Origin) -> &'static str
     requires { origin ≢ Origin.Neither }
     ensures { result.now ≡ origin_text origin }
 {
