@@ -3,7 +3,6 @@
 
 mod commands;
 mod line;
-mod print;
 
 pub use commands::run;
 pub use line::Command;
