@@ -1,0 +1,73 @@
+-- Lines that were worked out by hand come out of the definition.
+use Rattle.std.proofs.Common.{◌≡◌, refl, ℕ, [], ◌∷◌, Bool, true, false, replicate}
+use Rattle.std.specs.Prelude.{codes, Ok, Err}
+use Rattle.rp_types.specs.declared.arch.Arch.TheVariants.{X86_64}
+use Rattle.rp_words.specs.declared.fault.WordFault.TheVariants.{NoCommand, UnknownCommand, NotOption, UnknownOption, OtherCommand, Twice, BadValue, NoImage}
+use Rattle.rp_words.specs.declared.line.Line.{Line}
+use Rattle.rp_words.specs.declared.table.Command.TheVariants.{Show}
+use Rattle.rp_words.specs.declared.table.Opt.TheVariants.{Json, SectorSize}
+use Rattle.rp_words.specs.Faults.{entry_called, first_fault, missing}
+use Rattle.rp_words.specs.Line.{command_of, line_of}
+use Rattle.rp_words.specs.Table.{commands, options}
+use Rattle.rp_types.specs.Guids.{guid_of}
+use Rattle.rp_values.specs.Numbers.{size_of}
+
+-- the line of `show`, with JSON or not, for sectors of so many bytes
+abbrev show : Bool → ℕ → Line
+show json sector = record {
+  command = Show;
+  seed = record { 0 = replicate 16 0 };
+  arch = X86_64;
+  size = 0;
+  json = json;
+  sector = sector;
+  factory_reset = false;
+  number = 0;
+}
+
+no_words : line_of [] ≡ Err NoCommand
+no_words = refl
+
+a_command_that_is_not_built : line_of (codes "apply" ∷ codes "image" ∷ []) ≡ Err UnknownCommand
+unfolding command_of commands
+a_command_that_is_not_built = refl
+
+by_default : line_of (codes "show" ∷ codes "image" ∷ []) ≡ Ok (show false 512)
+unfolding command_of commands first_fault missing entry_called options guid_of size_of
+by_default = refl
+
+in_any_order : line_of (codes "show" ∷ codes "--sector-size=4096" ∷ codes "--json=short" ∷ codes "image" ∷ []) ≡ Ok (show true 4096)
+unfolding command_of commands first_fault missing entry_called options guid_of size_of
+in_any_order = refl
+
+without_an_image : line_of (codes "show" ∷ []) ≡ Err NoImage
+unfolding command_of commands first_fault missing entry_called options
+without_an_image = refl
+
+an_image_with_a_hyphen : line_of (codes "show" ∷ codes "-x" ∷ []) ≡ Err (NotOption 1)
+unfolding command_of commands first_fault missing entry_called options
+an_image_with_a_hyphen = refl
+
+behind_the_image : line_of (codes "show" ∷ codes "image" ∷ codes "--json=off" ∷ []) ≡ Err (NotOption 1)
+unfolding command_of commands first_fault missing entry_called options
+behind_the_image = refl
+
+given_twice : line_of (codes "show" ∷ codes "--json=off" ∷ codes "--json=off" ∷ codes "image" ∷ []) ≡ Err (Twice 2)
+unfolding command_of commands first_fault missing entry_called options
+given_twice = refl
+
+an_empty_value : line_of (codes "show" ∷ codes "--json=" ∷ codes "image" ∷ []) ≡ Err (BadValue 1 Json)
+unfolding command_of commands first_fault missing entry_called options
+an_empty_value = refl
+
+another_sector_size : line_of (codes "show" ∷ codes "--sector-size=1024" ∷ codes "image" ∷ []) ≡ Err (BadValue 1 SectorSize)
+unfolding command_of commands first_fault missing entry_called options
+another_sector_size = refl
+
+of_another_command : line_of (codes "show" ∷ codes "--seed=x" ∷ codes "image" ∷ []) ≡ Err (OtherCommand 1)
+unfolding command_of commands first_fault missing entry_called options
+of_another_command = refl
+
+an_unknown_option : line_of (codes "show" ∷ codes "--color=x" ∷ codes "image" ∷ []) ≡ Err (UnknownOption 1)
+unfolding command_of commands first_fault missing entry_called options
+an_unknown_option = refl

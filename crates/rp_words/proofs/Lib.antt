@@ -1,0 +1,9 @@
+mod Commands
+mod Computed
+mod First
+mod Hyphens
+mod Numbers
+mod Options
+mod Paths
+mod Places
+mod Strings

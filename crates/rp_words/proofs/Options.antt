@@ -1,0 +1,16 @@
+-- The search in the table of options is the search in what it lends.
+use Rattle.std.proofs.Common.{◌≡◌, ℕ, List, map, sym, ap, ◌∙◌, Bor}
+use Rattle.rp_words.specs.declared.table.Command.{Command}
+use Rattle.rp_words.specs.declared.table.OptionRow.{OptionRow}
+use Rattle.rp_words.specs.Faults.{called, wanting}
+use Rattle.rp_words.specs.Table.{option_entry, options}
+use Rattle.rp_words.specs.Words.{first_of}
+use Rattle.rp_words.proofs.First.{first_in_map}
+
+pub called_in : (name : List ℕ) (lent : List (Bor (List ℕ) × Bor (List ℕ) × Bor (List ℕ) × OptionRow)) → map option_entry lent ≡ options
+    → first_of (called name) options ≡ first_of (λ entry. called name (option_entry entry)) lent
+called_in name lent e = ap (first_of (called name)) (sym e) ∙ first_in_map (called name) option_entry lent
+
+pub wanting_in : (command : Command) (words : List (List ℕ)) (lent : List (Bor (List ℕ) × Bor (List ℕ) × Bor (List ℕ) × OptionRow)) → map option_entry lent ≡ options
+    → first_of (wanting command words) options ≡ first_of (λ entry. wanting command words (option_entry entry)) lent
+wanting_in command words lent e = ap (first_of (wanting command words)) (sym e) ∙ first_in_map (wanting command words) option_entry lent

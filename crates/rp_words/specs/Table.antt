@@ -1,0 +1,26 @@
+-- The commands and their options: the tables of src/table.rt (own).
+use Rattle.std.specs.Prelude.{ℕ, List, map}
+use Rattle.std.specs.Borrow.{Bor}
+use Rattle.rp_words.specs.declared.table.CommandRow.{CommandRow}
+use Rattle.rp_words.specs.declared.table.OptionRow.{OptionRow}
+use Rattle.rp_words.specs.declared.table.TheConstants.{COMMANDS, OPTIONS}
+
+-- a command by name, where the name was lent
+abbrev pub command_entry : Bor (List ℕ) × CommandRow → List ℕ × CommandRow
+command_entry entry = (entry.0.now, entry.1)
+
+-- an option by name, with the value that stands where it isn't given, and how its values are written
+abbrev pub Entry : Type 0
+Entry = List ℕ × List ℕ × List ℕ × OptionRow
+
+-- the same, where its texts were lent
+abbrev pub option_entry : Bor (List ℕ) × Bor (List ℕ) × Bor (List ℕ) × OptionRow → Entry
+option_entry entry = (entry.0.now, entry.1.now, entry.2.now, entry.3)
+
+-- the commands by name, those that aren't built yet too
+unfoldable pub commands : List (List ℕ × CommandRow)
+commands = map (λ entry. (entry.0.now, entry.1)) COMMANDS
+
+-- the options of all commands, by name
+unfoldable pub options : List Entry
+options = map (λ entry. (entry.0.now, entry.1.now, entry.2.now, entry.3)) OPTIONS

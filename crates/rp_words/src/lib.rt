@@ -1,0 +1,12 @@
+//! The words of a command line: one table of commands and options, and how words are read by it, without memory.
+#![tactic(auto)]
+
+mod fault;
+mod line;
+mod table;
+mod values;
+mod words;
+
+pub use fault::WordFault;
+pub use line::{Line, read_line};
+pub use table::{Command, Opt};
