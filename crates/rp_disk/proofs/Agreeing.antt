@@ -35,7 +35,8 @@ pub Spares-left : (k : ℕ) (xs ys : List Call) → Spares k (xs ++ ys) → Spar
 Spares-left k [] ys spares = tt
 Spares-left k (Write at bytes ∷ xs) ys spares = (spares.0, Spares-left k xs ys spares.1)
 Spares-left k (Sync ∷ xs) ys spares = Spares-left k xs ys spares
-Spares-left k (SetLen len ∷ xs) ys spares = (⊎_elim (λ below. inl below) (λ each. inr (Each-left (EndsBefore k) xs ys each)) spares.0, Spares-left k xs ys spares.1)
+Spares-left k (SetLen len ∷ xs) ys spares =
+    (⊎_elim (λ below. inl below) (λ each. inr (Each-left (EndsBefore k) xs ys each)) spares.0, Spares-left k xs ys spares.1)
 
 pub Spares-right : (k : ℕ) (xs ys : List Call) → Spares k (xs ++ ys) → Spares k ys
 Spares-right k [] ys spares = spares
@@ -48,7 +49,8 @@ below_or_ended : (k n : ℕ) (xs ys : List Call) → Spares k (xs ++ ys) → Set
 below_or_ended k n [] ys spares sets = absurd sets
 below_or_ended k n (Write at bytes ∷ xs) ys spares sets = below_or_ended k n xs ys spares.1 sets
 below_or_ended k n (Sync ∷ xs) ys spares sets = below_or_ended k n xs ys spares sets
-below_or_ended k n (SetLen m ∷ xs) ys spares (inl here) = ⊎_elim (λ below. inl (subst (λ (j : ℕ). k < j) (sym here) below)) (λ each. inr (Each-right (EndsBefore k) xs ys each)) spares.0
+below_or_ended k n (SetLen m ∷ xs) ys spares (inl here) =
+    ⊎_elim (λ below. inl (subst (λ (j : ℕ). k < j) (sym here) below)) (λ each. inr (Each-right (EndsBefore k) xs ys each)) spares.0
 below_or_ended k n (SetLen m ∷ xs) ys spares (inr there) = below_or_ended k n xs ys spares.1 there
 
 ends_before : (k n : ℕ) (calls : List Call) → Each (EndsBefore k) calls → SetsLength calls n → n ≤ k
@@ -77,7 +79,8 @@ agrees-sync image new agrees =
     ext_get_or 0 new image same (λ k lt. agrees.kept k (omega arith) lt tt)
 
 -- one after another
-pub agrees-then : (image middle new : List ℕ) (xs ys : List Call) → Agrees image xs middle → Agrees middle ys new → Agrees image (xs ++ ys) new
+pub agrees-then : (image middle new : List ℕ) (xs ys : List Call) → Agrees image xs middle → Agrees middle ys new
+    → Agrees image (xs ++ ys) new
 agrees-then image middle new xs ys a b = record {
   size = elim b.size [
     | inr sets ↦ inr (SetsLength-right xs ys (length new) sets)
@@ -103,10 +106,12 @@ agrees-more image xs ys new agrees = agrees-then image new new xs ys agrees (agr
 
 -- calls that were done whole
 
-pub length-overwritten : (image : List ℕ) (at : ℕ) (bytes : List ℕ) → at + length bytes ≤ length image → length (overwritten image at bytes) ≡ length image
+pub length-overwritten : (image : List ℕ) (at : ℕ) (bytes : List ℕ) → at + length bytes ≤ length image
+    → length (overwritten image at bytes) ≡ length image
 length-overwritten image at bytes fits = grind (arith, common_steps)
 
-pub get_or-overwritten : (image : List ℕ) (at : ℕ) (bytes : List ℕ) (k : ℕ) → at + length bytes ≤ length image → (k < at) ⊎ (at + length bytes ≤ k)
+pub get_or-overwritten : (image : List ℕ) (at : ℕ) (bytes : List ℕ) (k : ℕ) → at + length bytes ≤ length image
+    → (k < at) ⊎ (at + length bytes ≤ k)
     → get_or (overwritten image at bytes) k 0 ≡ get_or image k 0
 get_or-overwritten image at bytes k fits (inl below) = grind (arith, common_steps)
 get_or-overwritten image at bytes k fits (inr above) =
@@ -143,6 +148,7 @@ shown_left (Did before (SetLen len)) lawful =
     (shown_left before lawful.0) (agrees-done (shown before) (SetLen len) lawful.1)
 shown_left (Failed before (Write at bytes) after) lawful =
     agrees-then (settled_bytes before) (shown before) after (pending_calls before) (Write at bytes ∷ []) (shown_left before lawful.0) lawful.1
-shown_left (Failed before Sync after) lawful = subst (MayLeave before) (sym (agrees-sync (shown before) after lawful.1)) (shown_left before lawful.0)
+shown_left (Failed before Sync after) lawful =
+    subst (MayLeave before) (sym (agrees-sync (shown before) after lawful.1)) (shown_left before lawful.0)
 shown_left (Failed before (SetLen len) after) lawful =
     agrees-then (settled_bytes before) (shown before) after (pending_calls before) (SetLen len ∷ []) (shown_left before lawful.0) lawful.1

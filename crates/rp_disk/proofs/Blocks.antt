@@ -16,7 +16,8 @@ pub Each-imp : (P Q : Call → Type 0) → ((call : Call) → P call → Q call)
 Each-imp P Q imp [] each = tt
 Each-imp P Q imp (call ∷ calls) each = (imp call each.0, Each-imp P Q imp calls each.1)
 
-pub EachBlock-imp : (P Q : Call → Type 0) → ((call : Call) → P call → Q call) → (blocks : List (List Call)) → EachBlock P blocks → EachBlock Q blocks
+pub EachBlock-imp : (P Q : Call → Type 0) → ((call : Call) → P call → Q call) → (blocks : List (List Call)) → EachBlock P blocks
+    → EachBlock Q blocks
 EachBlock-imp P Q imp [] each = tt
 EachBlock-imp P Q imp (block ∷ blocks) each = (Each-imp P Q imp block each.0, EachBlock-imp P Q imp blocks each.1)
 
@@ -52,12 +53,14 @@ pub settled-block : (image : List ℕ) (block rest : List Call) → settled imag
 settled-block image [] [] = refl
 settled-block image [] (call ∷ rest) = refl
 settled-block image (call ∷ block) rest =
-    ap (λ b. cond b (settled (done image call) (block ++ Sync ∷ rest)) image) (has_sync-block (call ∷ block) rest) ∙ settled-block (done image call) block rest
+    ap (λ b. cond b (settled (done image call) (block ++ Sync ∷ rest)) image) (has_sync-block (call ∷ block) rest)
+    ∙ settled-block (done image call) block rest
 
 pub pending-block : (block rest : List Call) → pending (block ++ Sync ∷ rest) ≡ pending rest
 pending-block [] rest = refl
 pending-block (call ∷ block) rest =
-    ap (λ b. cond b (pending (block ++ Sync ∷ rest)) (call ∷ (block ++ Sync ∷ rest))) (has_sync-block (call ∷ block) rest) ∙ pending-block block rest
+    ap (λ b. cond b (pending (block ++ Sync ∷ rest)) (call ∷ (block ++ Sync ∷ rest))) (has_sync-block (call ∷ block) rest)
+    ∙ pending-block block rest
 
 pub settled-open : (image : List ℕ) (block : List Call) → has_sync block ≡ false → settled image block ≡ image
 settled-open image [] none = refl
@@ -68,14 +71,16 @@ pending-open [] none = refl
 pending-open (call ∷ block) none = ap (λ b. cond b (pending block) (call ∷ block)) none
 
 -- behind a block and its sync
-pub leaves-block : (image : List ℕ) (block rest : List Call) (new : List ℕ) → Leaves image (block ++ Sync ∷ rest) new → Leaves (all_done image block) rest new
+pub leaves-block : (image : List ℕ) (block rest : List Call) (new : List ℕ) → Leaves image (block ++ Sync ∷ rest) new
+    → Leaves (all_done image block) rest new
 leaves-block image block rest new left =
     let P : List ℕ → Type 0 = λ s. Agrees s (pending rest) new in
     let Q : List Call → Type 0 = λ l. Agrees (settled image (block ++ Sync ∷ rest)) l new in
     subst P (settled-block image block rest) (subst Q (pending-block block rest) left)
 
 -- in calls without a sync
-pub leaves-open : (image : List ℕ) (block : List Call) (new : List ℕ) → has_sync block ≡ false → Leaves image block new → Agrees image block new
+pub leaves-open : (image : List ℕ) (block : List Call) (new : List ℕ) → has_sync block ≡ false → Leaves image block new
+    → Agrees image block new
 leaves-open image block new none left =
     let P : List ℕ → Type 0 = λ s. Agrees s block new in
     let Q : List Call → Type 0 = λ l. Agrees (settled image block) l new in
@@ -107,13 +112,15 @@ split_block (call ∷ front) rest (first ∷ block) others e =
       | inr behind ↦ let same : front ≡ block ++ Sync ∷ behind.0 = behind.1 in inr (behind.0, (cc), behind.2)
     ]
 
-agrees_block : (image : List ℕ) (front more block : List Call) (new : List ℕ) → front ++ more ≡ block → has_sync block ≡ false → Leaves image front new → Agrees image block new
+agrees_block : (image : List ℕ) (front more block : List Call) (new : List ℕ) → front ++ more ≡ block → has_sync block ≡ false
+    → Leaves image front new → Agrees image block new
 agrees_block image front more block new e none left =
     let P : List Call → Type 0 = λ l. Agrees image l new in
     subst P e (agrees-more image front more new (leaves-open image front new (has_sync-left front more (ap has_sync e ∙ none)) left))
 
 -- each image that a stop leaves of the first calls of blocks is of one of the phases
-pub phases : (image : List ℕ) (blocks : List (List Call)) (front : List Call) (new : List ℕ) → Unsynced blocks → IsFrontOf front (flat blocks) → Leaves image front new → Phases image blocks new
+pub phases : (image : List ℕ) (blocks : List (List Call)) (front : List Call) (new : List ℕ) → Unsynced blocks
+    → IsFrontOf front (flat blocks) → Leaves image front new → Phases image blocks new
 phases image [] [] new inner e left = left
 phases image [] (call ∷ front) new inner e left = let none : call ∷ (front ++ e.0) ≡ [] = e.1 in absurd (cc)
 phases image (block ∷ blocks) front new inner e left =
@@ -126,7 +133,8 @@ phases image (block ∷ blocks) front new inner e left =
     ]
 
 -- the phases of the first blocks, or those behind them
-pub phases-append : (image : List ℕ) (xs ys : List (List Call)) (new : List ℕ) → Phases image (xs ++ ys) new → Phases image xs new ⊎ Phases (blocks_done image xs) ys new
+pub phases-append : (image : List ℕ) (xs ys : List (List Call)) (new : List ℕ) → Phases image (xs ++ ys) new
+    → Phases image xs new ⊎ Phases (blocks_done image xs) ys new
 phases-append image [] ys new left = inr left
 phases-append image (x ∷ xs) ys new (inl here) = inl (inl here)
 phases-append image (x ∷ xs) ys new (inr behind) = elim (phases-append (all_done image x) xs ys new behind) [

@@ -13,7 +13,8 @@ use Rattle.rp_disk.proofs.Pushing.{all_done-more, settled-sync, settled-other, p
 -- where nothing is pending a stop leaves the bytes shown and nothing else
 pub settled_leaves : (history : History) (image : List ℕ) → IsSettled history → MayLeave history image → image ≡ shown history
 settled_leaves history image settled may =
-    agrees-none (settled_bytes history) image (subst (λ (l : List Call). Agrees (settled_bytes history) l image) settled.calls may) ∙ settled.bytes
+    agrees-none (settled_bytes history) image (subst (λ (l : List Call). Agrees (settled_bytes history) l image) settled.calls may)
+    ∙ settled.bytes
 
 -- after a sync that answered Ok nothing is pending
 pub synced : (history : History) → IsSettled (Did history Sync)
@@ -37,7 +38,8 @@ made_since-now (Did before call) = since_now (moment before) (made_since before 
 made_since-now (Failed before call after) = since_now (moment before) (and_failed (made_since before (moment before + 1)) call) []
 
 -- what a stop since now might have left: no call was made
-pub only_now : (history : History) (made : List Call) (image : List ℕ) → LeftSince history (moment history) made image → (made ≡ []) × MayLeave history image
+pub only_now : (history : History) (made : List Call) (image : List ℕ) → LeftSince history (moment history) made image
+    → (made ≡ []) × MayLeave history image
 only_now (Start bytes) made image left = left
 only_now (Did before call) made image (inl now) = (now.0 ∙ made_since-now (Did before call), now.1)
 only_now (Did before call) made image (inr older) = absurd (omega (arith, older.0))
@@ -61,14 +63,16 @@ record Stands (start : History) (made : List Call) (base : List ℕ) (open_calls
   base_is : base ≡ settled (shown start) made
   calls_are : open_calls ≡ pending made
 
-stands_leaves : (start : History) (made : List Call) (base : List ℕ) (open_calls : List Call) (image : List ℕ) → Stands start made base open_calls
+stands_leaves : (start : History) (made : List Call) (base : List ℕ) (open_calls : List Call) (image : List ℕ)
+    → Stands start made base open_calls
     → Agrees base open_calls image → Leaves (shown start) made image
 stands_leaves start made base open_calls image stands agrees =
     let P : List ℕ → Type 0 = λ b. Agrees b (pending made) image in
     subst P stands.base_is (subst (λ (l : List Call). Agrees base l image) stands.calls_are agrees)
 
 -- one call more that is no sync
-stands_other : (start : History) (made : List Call) (base : List ℕ) (open_calls : List Call) (call : Call) → is_sync call ≡ false → Stands start made base open_calls
+stands_other : (start : History) (made : List Call) (base : List ℕ) (open_calls : List Call) (call : Call) → is_sync call ≡ false
+    → Stands start made base open_calls
     → Stands start (made ++ call ∷ []) base (open_calls ++ call ∷ [])
 stands_other start made base open_calls call isnt stands = record {
   base_is = stands.base_is ∙ sym (settled-other (shown start) made call isnt);
@@ -81,10 +85,12 @@ record Ran (start now : History) (made : List Call) : Type 0 where
   shows : shown now ≡ all_done (shown start) made
   stands : Stands start made (settled_bytes now) (pending_calls now)
   since : made_since now (moment start) ≡ made
-  any_moment : (front : List Call) (image : List ℕ) → LeftSince now (moment start) front image → IsFrontOf front made × Leaves (shown start) front image
+  any_moment : (front : List Call) (image : List ℕ) → LeftSince now (moment start) front image
+      → IsFrontOf front made × Leaves (shown start) front image
 
 -- what a stop now may leave is said of the calls since then
-at_now : (start now : History) (made front : List Call) (image : List ℕ) → Stands start made (settled_bytes now) (pending_calls now) → made_since now (moment start) ≡ made
+at_now : (start now : History) (made front : List Call) (image : List ℕ) → Stands start made (settled_bytes now) (pending_calls now)
+    → made_since now (moment start) ≡ made
     → LeftNow now (moment start) front image → IsFrontOf front made × Leaves (shown start) front image
 at_now start now made front image stands since left =
     let P : List Call → Type 0 = λ f. IsFrontOf f made × Leaves (shown start) f image in
@@ -101,16 +107,20 @@ started start settled = record {
       at_now start start [] front image (record { base_is = settled.bytes; calls_are = settled.calls }) (made_since-now start) (now.0 ∙ sym (made_since-now start), now.1);
 }
 
-stands_did : (start now : History) (made : List Call) (call : Call) → Ran start now made → Stands start (made ++ call ∷ []) (settled_bytes (Did now call)) (pending_calls (Did now call))
-stands_did start now made (Write at bytes) ran = stands_other start made (settled_bytes now) (pending_calls now) (Write at bytes) refl ran.stands
-stands_did start now made Sync ran = record { base_is = ran.shows ∙ sym (settled-sync (shown start) made); calls_are = sym (pending-sync made) }
+stands_did : (start now : History) (made : List Call) (call : Call) → Ran start now made
+    → Stands start (made ++ call ∷ []) (settled_bytes (Did now call)) (pending_calls (Did now call))
+stands_did start now made (Write at bytes) ran =
+    stands_other start made (settled_bytes now) (pending_calls now) (Write at bytes) refl ran.stands
+stands_did start now made Sync ran =
+    record { base_is = ran.shows ∙ sym (settled-sync (shown start) made); calls_are = sym (pending-sync made) }
 stands_did start now made (SetLen len) ran = stands_other start made (settled_bytes now) (pending_calls now) (SetLen len) refl ran.stands
 
 goes_on : (start now : History) (made : List Call) (call : Call) → Ran start now made → Ran start (Did now call) (made ++ call ∷ [])
 goes_on start now made call ran =
     let stands = stands_did start now made call ran in
     let since : made_since (Did now call) (moment start) ≡ made ++ call ∷ [] =
-    since_later (moment start) (moment now) (made_since now (moment start) ++ call ∷ []) [] ran.begun ∙ ap (λ l. l ++ call ∷ []) ran.since in
+    since_later (moment start) (moment now) (made_since now (moment start) ++ call ∷ []) [] ran.begun
+    ∙ ap (λ l. l ++ call ∷ []) ran.since in
     record {
       begun = omega (arith, ran.begun);
       shows = ap (λ s. done s call) ran.shows ∙ sym (all_done-more (shown start) made call);
@@ -131,13 +141,18 @@ ran_all : (start : History) (calls : List Call) → IsSettled start → Ran star
 ran_all start calls settled = all_goes_on start start [] calls (started start settled)
 
 -- the last call failed
-stands_failed : (start now : History) (made : List Call) (call : Call) → Ran start now made → Stands start (and_failed made call) (settled_bytes now) (and_failed (pending_calls now) call)
-stands_failed start now made (Write at bytes) ran = stands_other start made (settled_bytes now) (pending_calls now) (Write at bytes) refl ran.stands
+stands_failed : (start now : History) (made : List Call) (call : Call) → Ran start now made
+    → Stands start (and_failed made call) (settled_bytes now) (and_failed (pending_calls now) call)
+stands_failed start now made (Write at bytes) ran =
+    stands_other start made (settled_bytes now) (pending_calls now) (Write at bytes) refl ran.stands
 stands_failed start now made Sync ran = ran.stands
-stands_failed start now made (SetLen len) ran = stands_other start made (settled_bytes now) (pending_calls now) (SetLen len) refl ran.stands
+stands_failed start now made (SetLen len) ran =
+    stands_other start made (settled_bytes now) (pending_calls now) (SetLen len) refl ran.stands
 
-call_failed : (start now : History) (made : List Call) (call : Call) (after : List ℕ) → Ran start now made → (front : List Call) (image : List ℕ)
-    → LeftSince (Failed now call after) (moment start) front image → IsFrontOf front (and_failed made call) × Leaves (shown start) front image
+call_failed : (start now : History) (made : List Call) (call : Call) (after : List ℕ) → Ran start now made
+    → (front : List Call) (image : List ℕ)
+    → LeftSince (Failed now call after) (moment start) front image
+    → IsFrontOf front (and_failed made call) × Leaves (shown start) front image
 call_failed start now made call after ran front image (inl at) =
     at_now start (Failed now call after) (and_failed made call) front image (stands_failed start now made call ran)
     (since_later (moment start) (moment now) (and_failed (made_since now (moment start)) call) [] ran.begun ∙ ap (λ l. and_failed l call) ran.since) at
@@ -148,7 +163,8 @@ call_failed start now made call after ran front image (inr older) =
 -- that a stop since might have left is in `Leaves` of the bytes shown at the start and the calls made by then, which
 -- are the first of these calls.
 pub law : (start now : History) (calls : List Call) → IsSettled start → Went start calls now
-    → (made : List Call) (image : List ℕ) → LeftSince now (moment start) made image → IsFrontOf made calls × Leaves (shown start) made image
+    → (made : List Call) (image : List ℕ) → LeftSince now (moment start) made image
+    → IsFrontOf made calls × Leaves (shown start) made image
 law start now calls settled (inl all) made image left =
     (ran_all start calls settled).any_moment made image (subst (λ (h : History). LeftSince h (moment start) made image) all left)
 law start now calls settled (inr failed) made image left =
@@ -157,7 +173,8 @@ law start now calls settled (inr failed) made image left =
     (subst (λ (h : History). LeftSince h (moment start) made image) failed.4 left))
 
 -- what a stop now may leave counts among what a stop since any moment might have left
-pub counts_now : (history : History) (since : ℕ) (image : List ℕ) → MayLeave history image → LeftSince history since (made_since history since) image
+pub counts_now : (history : History) (since : ℕ) (image : List ℕ) → MayLeave history image
+    → LeftSince history since (made_since history since) image
 counts_now (Start bytes) since image may = (refl, may)
 counts_now (Did before call) since image may = inl (refl, may)
 counts_now (Failed before call after) since image may = inl (refl, may)
@@ -167,6 +184,7 @@ pub counts_before_did : (history : History) (call : Call) (since : ℕ) (made : 
     → LeftSince history since made image → LeftSince (Did history call) since made image
 counts_before_did history call since made image le left = inr (le, left)
 
-pub counts_before_failed : (history : History) (call : Call) (after : List ℕ) (since : ℕ) (made : List Call) (image : List ℕ) → since ≤ moment history
+pub counts_before_failed : (history : History) (call : Call) (after : List ℕ) (since : ℕ) (made : List Call) (image : List ℕ)
+    → since ≤ moment history
     → LeftSince history since made image → LeftSince (Failed history call after) since made image
 counts_before_failed history call after since made image le left = inr (le, left)

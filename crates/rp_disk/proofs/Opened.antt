@@ -18,7 +18,8 @@ at_once : (start : History) → Behind start (Did start Sync)
 at_once start =
     let none : made_since (Did start Sync) (moment start + 1) ≡ [] = made_since-now (Did start Sync) in
     let one : made_since (Did start Sync) (moment start) ≡ Sync ∷ [] =
-    since_later (moment start) (moment start) (made_since start (moment start) ++ Sync ∷ []) [] (omega arith) ∙ ap (λ l. l ++ Sync ∷ []) (made_since-now start) in
+    since_later (moment start) (moment start) (made_since start (moment start) ++ Sync ∷ []) [] (omega arith)
+    ∙ ap (λ l. l ++ Sync ∷ []) (made_since-now start) in
     record {
       later = omega arith;
       since = one ∙ ap (λ l. Sync ∷ l) (sym none);
@@ -72,14 +73,16 @@ went_behind start now calls (inr failed) = let P : History → Type 0 = Behind s
     subst P (sym failed.4) (behind_failed start (all_did (Did start Sync) failed.0) failed.1 failed.2 (behind_all start (Did start Sync) failed.0 (at_once start)))
 
 -- once the sync has answered Ok
-opened : (start now : History) (calls made : List Call) (image : List ℕ) → Went (Did start Sync) calls now → LeftSince now (moment start) made image
+opened : (start now : History) (calls made : List Call) (image : List ℕ) → Went (Did start Sync) calls now
+    → LeftSince now (moment start) made image
     → MayLeave start image ⊎ ((more : List Call) × (made ≡ Sync ∷ more) × IsFrontOf more calls × Leaves (shown start) more image)
 opened start now calls made image went left = ⊎_elim (λ old. inl old)
     (λ more. let is = law (Did start Sync) now calls (synced start) went more.0 image more.2 in inr (more.0, more.1, is.0, is.1))
     ((went_behind start now calls went).splits made image left)
 
 -- the sync failed
-sync_failed : (start : History) (after : List ℕ) (made : List Call) (image : List ℕ) → LeftSince (Failed start Sync after) (moment start) made image → MayLeave start image
+sync_failed : (start : History) (after : List ℕ) (made : List Call) (image : List ℕ)
+    → LeftSince (Failed start Sync after) (moment start) made image → MayLeave start image
 sync_failed start after made image left = ⊎_elim (λ at. at.1) (λ older. (only_now start made image older.1).1) left
 
 no_calls : (calls : List Call) (call : Call) → and_failed calls call ≡ [] → (calls ≡ []) × (call ≡ Sync)
@@ -90,7 +93,8 @@ no_calls (first ∷ calls) (Write at bytes) none = absurd (cc)
 no_calls (first ∷ calls) Sync none = absurd (cc)
 no_calls (first ∷ calls) (SetLen len) none = absurd (cc)
 
-tail_failed : (made before : List Call) (last : Call) → Sync ∷ made ≡ and_failed before last → (more : List Call) × (before ≡ Sync ∷ more) × (made ≡ and_failed more last)
+tail_failed : (made before : List Call) (last : Call) → Sync ∷ made ≡ and_failed before last
+    → (more : List Call) × (before ≡ Sync ∷ more) × (made ≡ and_failed more last)
 tail_failed made [] (Write at bytes) is = absurd (cc)
 tail_failed made [] Sync is = absurd (cc)
 tail_failed made [] (SetLen len) is = absurd (cc)
@@ -115,7 +119,8 @@ law_behind_sync start now calls [] front (inl same) by_then image left =
     inl ((only_now start by_then image (subst (λ (h : History). LeftSince h (moment start) by_then image) same left)).1)
 law_behind_sync start now calls [] front (inr failed) by_then image left =
     let none = no_calls failed.0 failed.1 (sym failed.3) in
-    let is : now ≡ Failed start Sync failed.2 = failed.4 ∙ ap (λ l. Failed (all_did start l) failed.1 failed.2) none.0 ∙ ap (λ c. Failed start c failed.2) none.1 in
+    let is : now ≡ Failed start Sync failed.2 = failed.4 ∙ ap (λ l. Failed (all_did start l) failed.1 failed.2) none.0
+    ∙ ap (λ c. Failed start c failed.2) none.1 in
     inl (sync_failed start failed.2 by_then image (subst (λ (h : History). LeftSince h (moment start) by_then image) is left))
 law_behind_sync start now calls (first ∷ made) front went by_then image left =
     let first_is : first ≡ Sync = cc front.1 in

@@ -18,7 +18,8 @@ or_assoc false b c = refl
 
 has_sync-more : (calls : List Call) (call : Call) → has_sync (calls ++ call ∷ []) ≡ (has_sync calls || is_sync call)
 has_sync-more [] call = or_false (is_sync call)
-has_sync-more (first ∷ calls) call = ap (λ b. is_sync first || b) (has_sync-more calls call) ∙ or_assoc (is_sync first) (has_sync calls) (is_sync call)
+has_sync-more (first ∷ calls) call =
+    ap (λ b. is_sync first || b) (has_sync-more calls call) ∙ or_assoc (is_sync first) (has_sync calls) (is_sync call)
 
 has_sync-sync : (calls : List Call) → has_sync (calls ++ Sync ∷ []) ≡ true
 has_sync-sync calls = has_sync-more calls Sync ∙ or_true (has_sync calls)
@@ -32,13 +33,17 @@ all_done-more old (first ∷ calls) call = all_done-more (done old first) calls 
 
 pub settled-sync : (old : List ℕ) (calls : List Call) → settled old (calls ++ Sync ∷ []) ≡ all_done old calls
 settled-sync old [] = refl
-settled-sync old (first ∷ calls) = ap (λ b. cond b (settled (done old first) (calls ++ Sync ∷ [])) old) (has_sync-sync (first ∷ calls)) ∙ settled-sync (done old first) calls
+settled-sync old (first ∷ calls) =
+    ap (λ b. cond b (settled (done old first) (calls ++ Sync ∷ [])) old) (has_sync-sync (first ∷ calls))
+    ∙ settled-sync (done old first) calls
 
 pub pending-sync : (calls : List Call) → pending (calls ++ Sync ∷ []) ≡ []
 pending-sync [] = refl
-pending-sync (first ∷ calls) = ap (λ b. cond b (pending (calls ++ Sync ∷ [])) (first ∷ (calls ++ Sync ∷ []))) (has_sync-sync (first ∷ calls)) ∙ pending-sync calls
+pending-sync (first ∷ calls) =
+    ap (λ b. cond b (pending (calls ++ Sync ∷ [])) (first ∷ (calls ++ Sync ∷ []))) (has_sync-sync (first ∷ calls)) ∙ pending-sync calls
 
-pub settled-other : (old : List ℕ) (calls : List Call) (call : Call) → is_sync call ≡ false → settled old (calls ++ call ∷ []) ≡ settled old calls
+pub settled-other : (old : List ℕ) (calls : List Call) (call : Call) → is_sync call ≡ false
+    → settled old (calls ++ call ∷ []) ≡ settled old calls
 settled-other old [] call isnt = ap (λ b. cond b (done old call) old) (has_sync-other [] call isnt)
 settled-other old (first ∷ calls) call isnt =
     ap (λ b. cond b (settled (done old first) (calls ++ call ∷ [])) old) (has_sync-other (first ∷ calls) call isnt)

@@ -12,7 +12,8 @@ use Rattle.rp_disk.proofs.Opened.{law_behind_sync}
 
 -- histories and lists of calls
 
-pub after_made-append : (history : History) (made more : List Made) → after_made history (made ++ more) ≡ after_made (after_made history made) more
+pub after_made-append : (history : History) (made more : List Made)
+    → after_made history (made ++ more) ≡ after_made (after_made history made) more
 after_made-append history [] more = refl
 after_made-append history (Done call ∷ made) more = after_made-append (Did history call) made more
 after_made-append history (Broke call after ∷ made) more = after_made-append (Failed history call after) made more
@@ -38,7 +39,8 @@ shown-all_did start (call ∷ calls) = shown-all_did (Did start call) calls
 pub settled-all_did : (start : History) (calls : List Call) → IsSettled (all_did start (calls ++ Sync ∷ []))
 settled-all_did start calls = subst IsSettled (sym (all_did-append start calls (Sync ∷ []))) (synced (all_did start calls))
 
-pub history_of-dones : (first : List ℕ) (old : List Made) (calls : List Call) → history_of first (old ++ dones calls) ≡ all_did (history_of first old) calls
+pub history_of-dones : (first : List ℕ) (old : List Made) (calls : List Call)
+    → history_of first (old ++ dones calls) ≡ all_did (history_of first old) calls
 history_of-dones first old calls = after_made-append (Start first) old (dones calls) ∙ after_made-dones (history_of first old) calls
 
 -- calls that end with a sync, all done whole
@@ -56,7 +58,8 @@ pub are_all : (plan : List Call) → AreFirst (dones plan) plan
 are_all [] = tt
 are_all (call ∷ plan) = (refl, are_all plan)
 
-pub first_of_more : (calls : List Call) (made : List Made) (plan : List Call) → AreFirst made plan → AreFirst (dones calls ++ made) (calls ++ plan)
+pub first_of_more : (calls : List Call) (made : List Made) (plan : List Call) → AreFirst made plan
+    → AreFirst (dones calls ++ made) (calls ++ plan)
 first_of_more [] made plan are = are
 first_of_more (call ∷ calls) made plan are = (refl, first_of_more calls made plan are)
 
@@ -73,7 +76,8 @@ count_done-more (call ∷ calls) made = let more = count_done-more calls made in
 -- another function's run within a longer one
 
 -- a run broke off, of which this is a longer one
-pub broke_off_within : (old mid new : List Made) (calls plan rest : List Call) → mid ≡ old ++ dones calls → BrokeOff mid plan new → BrokeOff old (calls ++ (plan ++ rest)) new
+pub broke_off_within : (old mid new : List Made) (calls plan rest : List Call) → mid ≡ old ++ dones calls → BrokeOff mid plan new
+    → BrokeOff old (calls ++ (plan ++ rest)) new
 broke_off_within old mid new calls plan rest so broke = (
   dones calls ++ broke.0,
   first_of_more calls broke.0 (plan ++ rest) (first_of_longer broke.0 plan rest broke.1),
@@ -91,13 +95,15 @@ broke_off_at old mid new calls call rest so failed = broke_off_within old mid ne
     one (inr broke) = (Broke call broke.0 ∷ [], (refl, refl), omega arith, broke.1)
 
 -- the same, of a plan that is known to go on so
-pub broke_off_in : (old mid new : List Made) (calls : List Call) (call : Call) (rest plan : List Call) → plan ≡ calls ++ call ∷ rest → mid ≡ old ++ dones calls
+pub broke_off_in : (old mid new : List Made) (calls : List Call) (call : Call) (rest plan : List Call) → plan ≡ calls ++ call ∷ rest
+    → mid ≡ old ++ dones calls
     → (new ≡ mid) ⊎ ((after : List ℕ) × (new ≡ mid ++ Broke call after ∷ [])) → BrokeOff old plan new
 broke_off_in old mid new calls call rest plan split so failed =
     let P : List Call → Type 0 = λ l. BrokeOff old l new in subst P (sym split) (broke_off_at old mid new calls call rest so failed)
 
 -- the first of a plan were made, whether all or not
-pub made_first : {T E : Type 0} (result : Result T E) (old new : List Made) (plan : List Call) → Runs old plan new result → MadeFirst old plan new
+pub made_first : {T E : Type 0} (result : Result T E) (old new : List Made) (plan : List Call) → Runs old plan new result
+    → MadeFirst old plan new
 made_first (Ok x) old new plan runs = (dones plan, are_all plan, runs.ok)
 made_first (Err e) old new plan runs = (runs.err.0, runs.err.1, runs.err.3)
 
@@ -113,7 +119,8 @@ front_of_broken (Write at bytes) plan = (plan, refl)
 front_of_broken Sync plan = (Sync ∷ plan, refl)
 front_of_broken (SetLen len) plan = (plan, refl)
 
-went_one_more : (history : History) (first : Call) (calls : List Call) (now : History) → Went (Did history first) calls now → Went history (first ∷ calls) now
+went_one_more : (history : History) (first : Call) (calls : List Call) (now : History) → Went (Did history first) calls now
+    → Went history (first ∷ calls) now
 went_one_more history first calls now (inl e) = inl e
 went_one_more history first calls now (inr w) = inr (first ∷ w.0, w.1, w.2, ap (λ l. first ∷ l) w.3 ∙ and_failed-more first w.0 w.1, w.4)
 
@@ -144,12 +151,14 @@ front_of history (Broke call after ∷ mades) (due ∷ plan) are =
 went_now : (first : List ℕ) (old new : List Made) (plan : List Call) (made : MadeFirst old plan new) (f : Front (history_of first old) made.0 plan)
     → Went (history_of first old) f.calls (history_of first new)
 went_now first old new plan made f =
-    let now : history_of first new ≡ after_made (history_of first old) made.0 = ap (history_of first) made.2 ∙ after_made-append (Start first) old made.0 in
+    let now : history_of first new ≡ after_made (history_of first old) made.0 = ap (history_of first) made.2
+    ∙ after_made-append (Start first) old made.0 in
     let P : History → Type 0 = λ h. Went (history_of first old) f.calls h in
     subst P (sym now) f.went
 
 -- at any moment of a run from a start where nothing was pending
-pub any_moment : (first : Option (List ℕ)) (old new : List Made) (plan : List Call) → MadeFirst old plan new → AtAnyMoment first old plan new
+pub any_moment : (first : Option (List ℕ)) (old new : List Made) (plan : List Call) → MadeFirst old plan new
+    → AtAnyMoment first old plan new
 any_moment None old new plan made = tt
 any_moment (Some bytes) old new plan made = λ settled by_then image left.
     let start = history_of bytes old in
@@ -158,7 +167,8 @@ any_moment (Some bytes) old new plan made = λ settled by_then image left.
     (front_of_front by_then f.calls plan is.0 f.front, is.1)
 
 -- at any moment of a run that begins with a sync, from any start
-pub any_moment_behind_sync : (first : Option (List ℕ)) (old new : List Made) (plan : List Call) → MadeFirst old (Sync ∷ plan) new → AtAnyMomentBehindSync first old plan new
+pub any_moment_behind_sync : (first : Option (List ℕ)) (old new : List Made) (plan : List Call) → MadeFirst old (Sync ∷ plan) new
+    → AtAnyMomentBehindSync first old plan new
 any_moment_behind_sync None old new plan made = tt
 any_moment_behind_sync (Some bytes) old new plan made =
     let start = history_of bytes old in
@@ -167,25 +177,32 @@ any_moment_behind_sync (Some bytes) old new plan made =
 
 -- for a function's answers, from what the function that it calls says of its run
 
-pub run_any_moment : {T E : Type 0} (result : Result T E) (first : Option (List ℕ)) (old new : List Made) (plan : List Call) → Runs old plan new result → AtAnyMoment first old plan new
+pub run_any_moment : {T E : Type 0} (result : Result T E) (first : Option (List ℕ)) (old new : List Made) (plan : List Call)
+    → Runs old plan new result → AtAnyMoment first old plan new
 run_any_moment result first old new plan runs = any_moment first old new plan (made_first result old new plan runs)
 
-pub run_any_moment_behind_sync : {T E : Type 0} (result : Result T E) (first : Option (List ℕ)) (old new : List Made) (plan : List Call) → Runs old (Sync ∷ plan) new result
+pub run_any_moment_behind_sync : {T E : Type 0} (result : Result T E) (first : Option (List ℕ)) (old new : List Made) (plan : List Call)
+    → Runs old (Sync ∷ plan) new result
     → AtAnyMomentBehindSync first old plan new
-run_any_moment_behind_sync result first old new plan runs = any_moment_behind_sync first old new plan (made_first result old new (Sync ∷ plan) runs)
+run_any_moment_behind_sync result first old new plan runs =
+    any_moment_behind_sync first old new plan (made_first result old new (Sync ∷ plan) runs)
 
-pub run_ends_settled : {T E : Type 0} (result : Result T E) (first : Option (List ℕ)) (old new : List Made) (calls : List Call) → Runs old (calls ++ Sync ∷ []) new result
+pub run_ends_settled : {T E : Type 0} (result : Result T E) (first : Option (List ℕ)) (old new : List Made) (calls : List Call)
+    → Runs old (calls ++ Sync ∷ []) new result
     → OnOk result (EndsSettled first old (calls ++ Sync ∷ []) new)
 run_ends_settled (Ok x) first old new calls runs = ends_settled first old new calls runs.ok
 run_ends_settled (Err e) first old new calls runs = tt
 
 -- so far these calls were made; one more that was done whole
-pub one_more : (old mid new : List Made) (calls : List Call) (call : Call) → mid ≡ old ++ dones calls → new ≡ mid ++ Done call ∷ [] → new ≡ old ++ dones (calls ++ call ∷ [])
+pub one_more : (old mid new : List Made) (calls : List Call) (call : Call) → mid ≡ old ++ dones calls → new ≡ mid ++ Done call ∷ []
+    → new ≡ old ++ dones (calls ++ call ∷ [])
 one_more old mid new calls call so done =
-    done ∙ ap (λ l. l ++ Done call ∷ []) so ∙ append_assoc old (dones calls) (Done call ∷ []) ∙ ap (λ l. old ++ l) (sym (dones-append calls (call ∷ [])))
+    done ∙ ap (λ l. l ++ Done call ∷ []) so ∙ append_assoc old (dones calls) (Done call ∷ [])
+    ∙ ap (λ l. old ++ l) (sym (dones-append calls (call ∷ [])))
 
 -- another function's, that were all done whole
-pub more : (old mid new : List Made) (calls plan : List Call) → mid ≡ old ++ dones calls → new ≡ mid ++ dones plan → new ≡ old ++ dones (calls ++ plan)
+pub more : (old mid new : List Made) (calls plan : List Call) → mid ≡ old ++ dones calls → new ≡ mid ++ dones plan
+    → new ≡ old ++ dones (calls ++ plan)
 more old mid new calls plan so done =
     done ∙ ap (λ l. l ++ dones plan) so ∙ append_assoc old (dones calls) (dones plan) ∙ ap (λ l. old ++ l) (sym (dones-append calls plan))
 

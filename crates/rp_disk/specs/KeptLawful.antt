@@ -19,14 +19,16 @@ abbrev pub kept : List ℕ → List ℕ → List Call → List Bool → History
 kept image first [] oks = Start image
 kept image first (call ∷ calls) oks = replayed (Start first) (call ∷ calls) oks
 
-pub after-answered : (history : History) (calls : List Call) (oks : List Bool) → after_made history (all_answered (shown history) calls oks) ≡ replayed history calls oks
+pub after-answered : (history : History) (calls : List Call) (oks : List Bool)
+    → after_made history (all_answered (shown history) calls oks) ≡ replayed history calls oks
 after-answered history [] oks = refl
 after-answered history (call ∷ calls) [] = refl
 after-answered history (call ∷ calls) (true ∷ oks) = after-answered (Did history call) calls oks
 after-answered history (call ∷ calls) (false ∷ oks) = after-answered (Failed history call (shown history)) calls oks
 
 -- the history of what is kept, call by call
-pub history-kept : (image first : List ℕ) (calls : List Call) (oks : List Bool) → history_of (first_kept image first calls) (all_answered first calls oks) ≡ kept image first calls oks
+pub history-kept : (image first : List ℕ) (calls : List Call) (oks : List Bool)
+    → history_of (first_kept image first calls) (all_answered first calls oks) ≡ kept image first calls oks
 history-kept image first [] oks = refl
 history-kept image first (call ∷ calls) oks = after-answered (Start first) (call ∷ calls) oks
 
@@ -44,30 +46,36 @@ within_of image Sync fit = tt
 within_of image (SetLen len) fit = tt
 
 -- one more call
-lawful_noted : (history : History) (call : Call) (ok : Bool) → IsLawful history → writes_fit (noted history call ok) ≡ true → IsLawful (noted history call ok)
-lawful_noted history call true lawful fit = (lawful, within_of (shown history) call (and_right (writes_fit history) (fits (shown history) call) fit))
+lawful_noted : (history : History) (call : Call) (ok : Bool) → IsLawful history → writes_fit (noted history call ok) ≡ true
+    → IsLawful (noted history call ok)
+lawful_noted history call true lawful fit =
+    (lawful, within_of (shown history) call (and_right (writes_fit history) (fits (shown history) call) fit))
 lawful_noted history call false lawful fit = (lawful, record { size = inl refl; kept = λ k lt lt' spares. refl })
 
 fit_before : (history : History) (call : Call) (ok : Bool) → writes_fit (noted history call ok) ≡ true → writes_fit history ≡ true
 fit_before history call true fit = and_left (writes_fit history) (fits (shown history) call) fit
 fit_before history call false fit = fit
 
-fit_at_first : (history : History) (calls : List Call) (oks : List Bool) → writes_fit (replayed history calls oks) ≡ true → writes_fit history ≡ true
+fit_at_first : (history : History) (calls : List Call) (oks : List Bool) → writes_fit (replayed history calls oks) ≡ true
+    → writes_fit history ≡ true
 fit_at_first history [] oks fit = fit
 fit_at_first history (call ∷ calls) [] fit = fit
 fit_at_first history (call ∷ calls) (ok ∷ oks) fit = fit_before history call ok (fit_at_first (noted history call ok) calls oks fit)
 
-lawful_replayed : (history : History) (calls : List Call) (oks : List Bool) → IsLawful history → writes_fit (replayed history calls oks) ≡ true → IsLawful (replayed history calls oks)
+lawful_replayed : (history : History) (calls : List Call) (oks : List Bool) → IsLawful history
+    → writes_fit (replayed history calls oks) ≡ true → IsLawful (replayed history calls oks)
 lawful_replayed history [] oks lawful fit = lawful
 lawful_replayed history (call ∷ calls) [] lawful fit = lawful
 lawful_replayed history (call ∷ calls) (ok ∷ oks) lawful fit =
     lawful_replayed (noted history call ok) calls oks (lawful_noted history call ok lawful (fit_at_first (noted history call ok) calls oks fit)) fit
 
-lawful_kept : (image first : List ℕ) (calls : List Call) (oks : List Bool) → writes_fit (kept image first calls oks) ≡ true → IsLawful (kept image first calls oks)
+lawful_kept : (image first : List ℕ) (calls : List Call) (oks : List Bool) → writes_fit (kept image first calls oks) ≡ true
+    → IsLawful (kept image first calls oks)
 lawful_kept image first [] oks fit = tt
 lawful_kept image first (call ∷ calls) oks fit = lawful_replayed (Start first) (call ∷ calls) oks tt fit
 
-pub kept_lawful : (image first : List ℕ) (calls : List Call) (oks : List Bool) → writes_fit (history_of (first_kept image first calls) (all_answered first calls oks)) ≡ true
+pub kept_lawful : (image first : List ℕ) (calls : List Call) (oks : List Bool)
+    → writes_fit (history_of (first_kept image first calls) (all_answered first calls oks)) ≡ true
     → IsLawful (history_of (first_kept image first calls) (all_answered first calls oks))
 kept_lawful image first calls oks =
     let P : History → Type 0 = λ h. writes_fit h ≡ true → IsLawful h in

@@ -9,7 +9,8 @@ returns-in_err-write_row-clause-ran g c =
     let row = row_of c.args.at c.args.count c.args.bytes.now in
     record {
       ok = search rules;
-      err = on_err c.from_residual-in_err-write_row.result (broke_off_within _ _ _ (Sync ∷ []) row (Sync ∷ []) c.in_ok-sync.ensures.calls.ok c.in_err-write_row.ensures.ran.err);
+      err =
+          on_err c.from_residual-in_err-write_row.result (broke_off_within _ _ _ (Sync ∷ []) row (Sync ∷ []) c.in_ok-sync.ensures.calls.ok c.in_err-write_row.ensures.ran.err);
     }
 
 pub returns-in_err-sync-2-clause-ran : goal.returns-in_err-sync-2-clause-ran

@@ -5,5 +5,10 @@ pub returns-clause-exact : goal.returns-clause-exact
 returns-clause-exact c = record {
   number = search rules;
   same = search rules;
-  outcome = inl record { starved = search rules; exact = record { ok = search rules; err = search rules }; done = search rules; failed = search rules };
+  outcome = inl record {
+    starved = search rules;
+    exact = record { ok = search rules; err = search rules };
+    done = search rules;
+    failed = search rules;
+  };
 }
