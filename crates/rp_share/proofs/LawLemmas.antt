@@ -12,7 +12,14 @@ sum_le : (x y : List ℕ) → length x ≡ length y → ((k : ℕ) → k < lengt
 sum_le [] y same each = omega arith
 sum_le (x ∷ xs) [] same each = absurd (omega arith)
 sum_le (x ∷ xs) (y ∷ ys) same each =
-    omega (arith, sum_by-cons (λ (n : ℕ). n) x xs, sum_by-cons (λ (n : ℕ). n) y ys, each 0 (omega arith), sum_le xs ys (omega arith) (λ k below. each (suc k) (omega arith)))
+    omega (
+      arith,
+      sum_by-cons (λ (n : ℕ). n) x xs,
+      sum_by-cons (λ (n : ℕ). n) y ys,
+      each 0 (omega arith),
+      sum_le xs ys (omega arith)
+          (λ k below. each (suc k) (omega arith)),
+    )
 
 -- and one that is larger makes it larger
 sum_lt : (x y : List ℕ) (i : ℕ) → length x ≡ length y → i < length x → slice_index x i < slice_index y i
@@ -41,7 +48,8 @@ module _ (items : List Item) (x y : List ℕ) (fair_x : IsFair items x) (fair_y 
       elim (cases_lt (slice_index x j) (slice_index y j)) [
         | inr enough ↦ enough
         | inl less ↦
-            let apart : i ≢ j = λ same. (let P : ℕ → Type 0 = λ k. slice_index y k < slice_index x k in let here : slice_index y j < slice_index x j = subst P same more in omega arith) in
+            let apart : i ≢ j = λ same. (let P : ℕ → Type 0 = λ k. slice_index y k < slice_index x k in let here : slice_index y
+            j < slice_index x j = subst P same more in omega arith) in
             let weighs_i : 0 < (item_at items i).weight = weighs i at_i (λ e. omega arith) in
             let weighs_j : 0 < (item_at items j).weight = weighs j at_j (λ e. omega arith) in
             let first : ComesBefore items i (slice_index x i) j (slice_index x j + 1) =
@@ -52,8 +60,10 @@ module _ (items : List Item) (x y : List ℕ) (fair_x : IsFair items x) (fair_y 
             fair_y.in_turn j i (λ same. apart (sym same))
             (record { place = at_j; weighs = weighs_j; above = omega (arith, fair_x.least j at_j) })
             (record { place = at_i; weighs = weighs_i; below = omega (arith, fair_x.most i at_i) }) in
-            let one : (slice_index y i + 1) * (item_at items j).weight ≤ slice_index x i * (item_at items j).weight = mul-le-mul_right (item_at items j).weight (omega arith) in
-            let other : (slice_index x j + 1) * (item_at items i).weight ≤ slice_index y j * (item_at items i).weight = mul-le-mul_right (item_at items i).weight (omega arith) in
+            let one : (slice_index y i + 1) * (item_at items j).weight ≤ slice_index x i * (item_at items j).weight = mul-le-mul_right
+            (item_at items j).weight (omega arith) in
+            let other : (slice_index x j + 1) * (item_at items i).weight ≤ slice_index y j * (item_at items i).weight = mul-le-mul_right
+            (item_at items i).weight (omega arith) in
             let i_first : i < j = first.tie (omega (arith, first.fewer, second.fewer)) in
             let j_first : j < i = second.tie (omega (arith, first.fewer, second.fewer)) in
             absurd (omega arith)
@@ -93,6 +103,8 @@ pub one_share : (span : ℕ) (items : List Item) → OneShare span items
 one_share span items x y share_x share_y =
     ext_get_or 0 x y (share_x.fair.one_each ∙ sym share_y.fair.one_each) (λ i below.
     let place : i < length items = omega (arith, share_x.fair.one_each) in
-    let most : slice_index x i ≤ slice_index y i = no_more items x y share_x.fair share_y.fair (no_less span items x y share_x share_y) i place in
-    let least : slice_index y i ≤ slice_index x i = no_more items y x share_y.fair share_x.fair (no_less span items y x share_y share_x) i place in
+    let most : slice_index x i ≤ slice_index y i = no_more items x y share_x.fair share_y.fair (no_less span items x y share_x share_y) i
+    place in
+    let least : slice_index y i ≤ slice_index x i = no_more items y x share_y.fair share_x.fair (no_less span items y x share_y share_x)
+    i place in
     omega arith)

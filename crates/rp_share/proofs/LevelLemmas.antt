@@ -45,13 +45,17 @@ module _ (level : ℕ) (items : List Item) (limits : All (λ item. item.min ≤ 
   limits_at i place = limits i _ place
 
   -- a fact of each item's grains holds of its share
-  at_each : (P : Item → ℕ → Type 0) → ((item : Item) → item.min ≤ item.max → P item (grains_at level item)) → (i : ℕ) → i < length items → P (item_at items i) (slice_index shares i)
+  at_each : (P : Item → ℕ → Type 0) → ((item : Item) → item.min ≤ item.max → P item (grains_at level item)) → (i : ℕ) → i < length items
+      → P (item_at items i) (slice_index shares i)
   at_each P at_item i place = rw at_place (at_item (item_at items i) (limits_at i place))
 
-  in_turn : (i j : ℕ) → i ≢ j → IsAbove items shares i → IsBelow items shares j → ComesBefore items i (slice_index shares i) j (slice_index shares j + 1)
+  in_turn : (i j : ℕ) → i ≢ j → IsAbove items shares i → IsBelow items shares j
+      → ComesBefore items i (slice_index shares i) j (slice_index shares j + 1)
   in_turn i j apart above below =
-      let within = at_each (λ item x. item.min < x → x * LEVEL_SCALE ≤ level * item.weight) (within_level level) i above.place above.above in
-      let beyond = at_each (λ item x. x < item.max → level * item.weight < (x + 1) * LEVEL_SCALE) (above_level level) j below.place below.below in
+      let within = at_each (λ item x. item.min < x → x * LEVEL_SCALE ≤ level * item.weight) (within_level level) i above.place
+      above.above in
+      let beyond = at_each (λ item x. x < item.max → level * item.weight < (x + 1) * LEVEL_SCALE) (above_level level) j below.place
+      below.below in
       let before = within_then_below _ _ level LEVEL_SCALE _ _ above.weighs within beyond in
       record { fewer = omega (arith, before); tie = λ e. absurd (omega (arith, before)) }
 
@@ -71,7 +75,8 @@ abbrev IsLight : Item → Type 0
 IsLight item = item.weight ≤ 1000000
 
 -- the sum at the next level has at most a grain more an item
-next_sum : (level : ℕ) (items : List Item) → All HasLimits items → All IsLight items → sum_by (grains_at (level + 1)) items ≤ sum_by (grains_at level) items + length items
+next_sum : (level : ℕ) (items : List Item) → All HasLimits items → All IsLight items
+    → sum_by (grains_at (level + 1)) items ≤ sum_by (grains_at level) items + length items
 next_sum level [] limits light = omega arith
 next_sum level (item ∷ items) limits light =
     omega (

@@ -3,7 +3,8 @@ use Rattle.std.specs.Prelude.{ℕ, ◌≡◌, ◌<◌, ◌≤◌, ◌+◌, ◌�
 use Rattle.rp_share.specs.declared.item.Item.{Item}
 use Rattle.rp_share.specs.Share.{item_at}
 
--- an item as it is asked for once it has a share: its least has not sunk and is at most the share, and its weight and its maximum are what they were
+-- an item as it is asked for once it has a share: its least has not sunk and is at most the share, and its weight and its maximum are
+-- what they were
 pub record IsAgain (item : Item) (share : ℕ) (again : Item) : Type 0 where
   pub more : item.min ≤ again.min
   pub least : again.min ≤ share
@@ -18,7 +19,8 @@ pub record IsPart (items : List Item) (shares : List ℕ) (at : ℕ) (again : Li
   pub share : (k : ℕ) → k < length again → slice_index part k ≡ slice_index shares (at + k)
   pub item : (k : ℕ) → k < length again → IsAgain (item_at items (at + k)) (slice_index part k) (item_at again k)
 
--- the span of the two items at a place and behind it: what they have together, or, where they are the last, all that those before them leave
+-- the span of the two items at a place and behind it: what they have together, or, where they are the last, all that those before them
+-- leave
 abbrev pub IsSpanAt : ℕ → List Item → List ℕ → ℕ → ℕ → Type 0
 IsSpanAt span items shares at again = (again ≡ slice_index shares at + slice_index shares (at + 1))
     ⊎ ((at + 2 ≡ length items) × (sum (take at shares) + again ≡ span))

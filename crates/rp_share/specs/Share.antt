@@ -23,7 +23,8 @@ pub record ComesBefore (items : List Item) (i a j b : ℕ) : Type 0 where
   pub fewer : a * (item_at items j).weight ≤ b * (item_at items i).weight
   pub tie : a * (item_at items j).weight ≡ b * (item_at items i).weight → i < j
 
--- each share is within its item's limits, an item of weight 0 has its minimum, and the last grain of an item comes before the next one of another
+-- each share is within its item's limits, an item of weight 0 has its minimum, and the last grain of an item comes before the next one
+-- of another
 pub record IsFair (items : List Item) (shares : List ℕ) : Type 0 where
   pub one_each : length shares ≡ length items
   pub least : (i : ℕ) → i < length items → (item_at items i).min ≤ slice_index shares i

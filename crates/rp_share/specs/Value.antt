@@ -11,7 +11,8 @@ can_take items shares i = nat_lt 0 (item_at items i).weight && nat_lt (slice_ind
 unfoldable pub sooner_of : List Item → List ℕ → Option ℕ → ℕ → Option ℕ
 sooner_of items shares None place = Some place
 sooner_of items shares (Some i) place =
-    if nat_lt ((slice_index shares place + 1) * (item_at items i).weight) ((slice_index shares i + 1) * (item_at items place).weight) then Some place else Some i
+    if nat_lt ((slice_index shares place + 1) * (item_at items i).weight) ((slice_index shares i + 1) * (item_at items place).weight)
+    then Some place else Some i
 
 -- the item below a place whose grain is next
 unfoldable pub next_below : List Item → List ℕ → ℕ → Option ℕ

@@ -6,7 +6,8 @@ use Rattle.rp_share.proofs.share.Goals as goal
 
 pub hand_out-requires-clause-fair : goal.hand_out-requires-clause-fair
 hand_out-requires-clause-fair c =
-    subst (IsFair c.args.items.now) (sym c.fill-rest.ensures.filled) (fair_at c.greatest_level-level.result c.args.items.now c.requires.limits)
+    subst (IsFair c.args.items.now) (sym c.fill-rest.ensures.filled) (fair_at c.greatest_level-level.result c.args.items.now
+    c.requires.limits)
 
 pub returns-clause-share : goal.returns-clause-share
 returns-clause-share c =
@@ -25,4 +26,5 @@ hand_out-requires-clause-few c =
     let level = c.greatest_level-level.result in
     let rest = c.fill-rest.result in
     subst (λ shares. (rest ≤ length items) ⊎ IsFull items shares) (sym c.fill-rest.ensures.filled)
-    (few_left c.args.span level rest items c.requires.limits c.requires.weights c.greatest_level-level.ensures.greatest c.fill-rest.ensures.rest)
+    (few_left c.args.span level rest items c.requires.limits c.requires.weights c.greatest_level-level.ensures.greatest
+    c.fill-rest.ensures.rest)

@@ -10,7 +10,11 @@ returns-in_default c = record {
 }
 
 pub overflow_add-shares : goal.overflow_add-shares
-overflow_add-shares c = omega (arith, get_or-le-sum_by (λ x. x) c.loop.shares c.in-Some.next 0 (omega (arith, c.in-Some.ensures.takes.place, c.loop.invariant.fair.one_each)))
+overflow_add-shares c = omega (
+  arith,
+  get_or-le-sum_by (λ x. x) c.loop.shares c.in-Some.next 0
+      (omega (arith, c.in-Some.ensures.takes.place, c.loop.invariant.fair.one_each)),
+)
 
 pub loop-preserved : goal.loop-preserved
 loop-preserved c = record {

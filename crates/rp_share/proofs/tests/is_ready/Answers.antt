@@ -11,6 +11,7 @@ loop-item-preserved c =
     let none : Item = record { min = 0; max = 0; weight = 0 } in
     record {
       limits = All-more (λ (item : Item). item.min ≤ item.max) items place none (omega arith) c.loop-item.invariant.limits c.if-item.false;
-      weights = All-more (λ (item : Item). item.weight ≤ 1000000) items place none (omega arith) c.loop-item.invariant.weights c.if-item-gt1000000.false;
+      weights = All-more (λ (item : Item). item.weight ≤ 1000000) items place none (omega arith) c.loop-item.invariant.weights
+          c.if-item-gt1000000.false;
       minima = omega (arith, sum_by_more (λ (item : Item). item.min) items place none (omega arith));
     }
