@@ -36,7 +36,8 @@ before_when_higher : (a b : Extent) → IsSized a → IsApart a b → b.start �
 before_when_higher a b sa (inl h) l = absurd (omega (arith, h, l, sa))
 before_when_higher a b sa (inr h) l = h
 
-IsChained-insert : (x : Extent) (es : List Extent) → IsSized x → All IsSized es → All (IsApart x) es → IsChained es → IsChained (insert_extent x es)
+IsChained-insert : (x : Extent) (es : List Extent) → IsSized x → All IsSized es → All (IsApart x) es → IsChained es
+    → IsChained (insert_extent x es)
 IsChained-insert x [] sized each apart chain = (All-nil (IsBefore x), tt)
 IsChained-insert x (e ∷ es) sized each apart chain =
     let he : IsSized e = All-head IsSized e es each in
@@ -56,7 +57,8 @@ AllPairs-head R x xs pairs k d below = pairs zero (suc k) d (omega arith) (omega
 pub AllPairs-tail : {X : Type 0} (R : X → X → Type 0) (x : X) (xs : List X) → AllPairs R (x ∷ xs) → AllPairs R xs
 AllPairs-tail R x xs pairs i j d before below = pairs (suc i) (suc j) d (omega (arith, before)) (omega (arith, below))
 
-IsChained-insert_each : (sorted es : List Extent) → All IsSized sorted → All IsSized es → IsChained sorted → AllPairs IsApart es → All (λ x. All (IsApart x) sorted) es
+IsChained-insert_each : (sorted es : List Extent) → All IsSized sorted → All IsSized es → IsChained sorted → AllPairs IsApart es
+    → All (λ x. All (IsApart x) sorted) es
     → IsChained (fold (λ s e. insert_extent e s) sorted es)
 IsChained-insert_each sorted [] ss es chain apart across = chain
 IsChained-insert_each sorted (x ∷ xs) ss es chain apart across =
@@ -64,9 +66,11 @@ IsChained-insert_each sorted (x ∷ xs) ss es chain apart across =
     let ax : All (IsApart x) sorted = All-head (λ y. All (IsApart y) sorted) x xs across in
     let rest : All (λ y. All (IsApart y) sorted) xs = All-tail (λ y. All (IsApart y) sorted) x xs across in
     let to_x : All (IsApart x) xs = AllPairs-head IsApart x xs apart in
-    IsChained-insert_each (insert_extent x sorted) xs (All-insert IsSized x sorted sx ss) (All-tail IsSized x xs es) (IsChained-insert x sorted sx ss ax chain)
+    IsChained-insert_each (insert_extent x sorted) xs (All-insert IsSized x sorted sx ss) (All-tail IsSized x xs es)
+    (IsChained-insert x sorted sx ss ax chain)
     (AllPairs-tail IsApart x xs apart)
     (λ k d below. All-insert (IsApart (get_or xs k d)) x sorted (apart-sym x (get_or xs k d) (to_x k d below)) (rest k d below))
 
 pub IsChained-by_start : (es : List Extent) → All IsSized es → AllPairs IsApart es → IsChained (by_start es)
-IsChained-by_start es sized apart = IsChained-insert_each [] es (All-nil IsSized) sized tt apart (λ k d below. All-nil (IsApart (get_or es k d)))
+IsChained-by_start es sized apart = IsChained-insert_each [] es (All-nil IsSized) sized tt apart
+    (λ k d below. All-nil (IsApart (get_or es k d)))

@@ -8,13 +8,17 @@ pub map-enumerate_more : {X Y : Type 0} (f : ℕ × X → Y) (xs : List X) (i : 
     → map f (take (i + 1) (enumerate_from 0 xs)) ≡ map f (take i (enumerate_from 0 xs)) ++ f (i, get_or xs i d) ∷ []
 map-enumerate_more f xs i d below =
     let l : i < length (enumerate_from 0 xs) = rw length-enumerate_from below in
-    ap (map f) (take_more (enumerate_from 0 xs) i (0, d) l) ∙ map-append f (take i (enumerate_from 0 xs)) (get_or (enumerate_from 0 xs) i (0, d) ∷ [])
-    ∙ ap (λ e. map f (take i (enumerate_from 0 xs)) ++ f e ∷ []) (get_or-enumerate_from 0 xs i (0, d) below ∙ ap (λ n. (n, get_or xs i d)) (zero-add i))
+    ap (map f) (take_more (enumerate_from 0 xs) i (0, d) l) ∙ map-append f (take i (enumerate_from 0 xs))
+    (get_or (enumerate_from 0 xs) i (0, d) ∷ [])
+    ∙ ap (λ e. map f (take i (enumerate_from 0 xs)) ++ f e ∷ []) (get_or-enumerate_from 0 xs i (0, d) below
+    ∙ ap (λ n. (n, get_or xs i d)) (zero-add i))
 
-pub get_or-map-enumerate : {X Y : Type 0} (f : ℕ × X → Y) (xs : List X) (i : ℕ) (d : X) (e : Y) → i < length xs → get_or (map f (enumerate_from 0 xs)) i e ≡ f (i, get_or xs i d)
+pub get_or-map-enumerate : {X Y : Type 0} (f : ℕ × X → Y) (xs : List X) (i : ℕ) (d : X) (e : Y) → i < length xs
+    → get_or (map f (enumerate_from 0 xs)) i e ≡ f (i, get_or xs i d)
 get_or-map-enumerate f xs i d e below =
     let l : i < length (enumerate_from 0 xs) = rw length-enumerate_from below in
-    get_or-map f (enumerate_from 0 xs) i (0, d) e l ∙ ap f (get_or-enumerate_from 0 xs i (0, d) below ∙ ap (λ n. (n, get_or xs i d)) (zero-add i))
+    get_or-map f (enumerate_from 0 xs) i (0, d) e l ∙ ap f (get_or-enumerate_from 0 xs i (0, d) below
+    ∙ ap (λ n. (n, get_or xs i d)) (zero-add i))
 
 pub length-map-enumerate : {X Y : Type 0} (f : ℕ × X → Y) (xs : List X) → length (map f (enumerate_from 0 xs)) ≡ length xs
 length-map-enumerate f xs = length-map (enumerate_from 0 xs) f ∙ length-enumerate_from 0 xs

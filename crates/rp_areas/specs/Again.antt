@@ -67,18 +67,29 @@ abbrev pub areas_of_pieces : List Want → ℕ → ℕ → List Piece → List A
 areas_of_pieces wants limit from [] rest = rest
 areas_of_pieces wants limit from (p ∷ ps) rest =
     let next = from + grains_up p.units + p.pad in
-    record { from = from; span = up_to next ps limit - from; anchor = Some p.file; used = used_of (want_at wants p.file) (row_at from p) } ∷ areas_of_pieces wants limit next ps rest
+    record {
+      from = from;
+      span = up_to next ps limit - from;
+      anchor = Some p.file;
+      used = used_of (want_at wants p.file) (row_at from p);
+    } ∷ areas_of_pieces wants limit next ps rest
 
 -- the areas behind a row, by its anchor, and behind the pieces in the area that was behind it
 abbrev pub areas_with : List Want → ℕ → Option ℕ → ℕ → List Piece → List Area → List Area
-areas_with wants limit None from ps rest = record { from = from; span = up_to from ps limit - from; anchor = None; used = 0 } ∷ areas_of_pieces wants limit from ps rest
+areas_with wants limit None from ps rest = record {
+  from = from;
+  span = up_to from ps limit - from;
+  anchor = None;
+  used = 0;
+} ∷ areas_of_pieces wants limit from ps rest
 areas_with wants limit (Some file) from ps rest = areas_of_pieces wants limit from ps rest
 
 -- the same for each row
 abbrev pub areas_again : ℕ → List Want → List Extent → List (List Piece) → List Area
 areas_again last wants [] stacks = []
 areas_again last wants (e ∷ es) [] = []
-areas_again last wants (e ∷ es) (ps ∷ stacks) = areas_with wants (limit_of last es) (area_behind wants (limit_of last es) e).anchor (area_behind wants (limit_of last es) e).from ps (areas_again last wants es stacks)
+areas_again last wants (e ∷ es) (ps ∷ stacks) = areas_with wants (limit_of last es) (area_behind wants (limit_of last es) e).anchor
+    (area_behind wants (limit_of last es) e).from ps (areas_again last wants es stacks)
 
 -- the rows of a table by rising start
 abbrev pub rows_by_start : Table → List (Option ℕ) → List Extent
@@ -86,14 +97,16 @@ rows_by_start table matched = by_start (extents_of table.rows matched)
 
 -- and those with pieces in the areas
 abbrev pub rows_again : Table → ℕ → List (Option ℕ) → List Want → List Piece → List (List Piece) → List Extent
-rows_again table last matched wants before stacks = stacked (grains_up table.first) before (woven last wants (rows_by_start table matched) stacks)
+rows_again table last matched wants before stacks = stacked (grains_up table.first) before
+    (woven last wants (rows_by_start table matched) stacks)
 
 -- each of the one stands in the other
 abbrev pub AreAmong : List Extent → List Extent → Type 0
 AreAmong es others = (e : Extent) → Contains es e → Contains others e
 
 -- a laid out table has the rows of another, none of which was refused, with pieces that fit in the areas
-pub record IsFilled (table again : Table) (last : ℕ) (matched rematched : List (Option ℕ)) (wants : List Want) (before : List Piece) (stacks : List (List Piece)) : Type 0 where
+pub record IsFilled (table again : Table) (last : ℕ) (matched rematched : List (Option ℕ)) (wants : List Want) (before : List Piece)
+    (stacks : List (List Piece)) : Type 0 where
   pub kept : IsOk (areas_of table last matched wants)
   pub old : IsLaidOut table
   pub laid_out : IsLaidOut again

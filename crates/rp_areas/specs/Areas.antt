@@ -1,4 +1,5 @@
--- The areas between the rows of a table, in grains of 8 sectors (systemd-repart(8): new partitions go to free areas, and existing ones grow into the area behind them).
+-- The areas between the rows of a table, in grains of 8 units of 512 bytes (systemd-repart(8): new partitions go to free areas, and
+-- existing ones grow into the area behind them).
 use Rattle.std.specs.Prelude.{ℕ, ◌+◌, ◌-◌, ◌*◌, ◌/◌, ◌%◌, ◌==◌, nat_lt, nat_le, if◌then◌else◌, max, false, ◌&&◌, Option, Some, None, Result, Ok, Err, List, [], ◌∷◌, map, fold, position, slice_get, unwrap_or}
 use Rattle.std.specs.List.{enumerate_from, cons_option}
 use Rattle.std.specs.Option.{option_map_or, option_and_then, is_some}
@@ -11,15 +12,15 @@ use Rattle.rp_areas.specs.declared.gaps.AreaFault.TheVariants.{Existing}
 use Rattle.rp_areas.specs.declared.extents.Extent.{Extent}
 use Rattle.rp_areas.specs.declared.behind.Refusal.{Refusal}
 
--- sectors in grains, rounded up
+-- units of 512 bytes in grains, rounded up
 abbrev pub grains_up : ℕ → ℕ
-grains_up sectors = (sectors + 7) / 8
+grains_up units = (units + 7) / 8
 
 -- the definition that has the row at this place, if one has
 abbrev pub file_of : List (Option ℕ) → ℕ → Option ℕ
 file_of matched place = position (λ m. option_map_or (λ p. p == place) m false) matched
 
--- the sectors of a row, given with its place, and its definition
+-- the units of a row, given with its place, and its definition
 abbrev pub extent_of : List (Option ℕ) → (ℕ × Row) → Extent
 extent_of matched e = record { start = e.1.start; size = e.1.size; file = file_of matched e.0 }
 
@@ -36,7 +37,7 @@ insert_extent e (f ∷ fs) = if nat_lt e.start f.start then e ∷ f ∷ fs else 
 abbrev pub by_start : List Extent → List Extent
 by_start extents = fold (λ sorted e. insert_extent e sorted) [] extents
 
--- where an area ends that reaches up to these extents: at the first, or else behind the last usable sector
+-- where an area ends that reaches up to these extents: at the first, or else behind the last usable unit
 abbrev pub limit_of : ℕ → List Extent → ℕ
 limit_of last [] = (last + 1) / 8
 limit_of last (e ∷ es) = e.start / 8
@@ -69,12 +70,16 @@ areas_behind last wants (e ∷ es) = area_behind wants (limit_of last es) e ∷ 
 abbrev pub area_before : ℕ → ℕ → List Extent → Area
 area_before first last extents = record { from = grains_up first; span = limit_of last extents - grains_up first; anchor = None; used = 0 }
 
+-- a definition is refused that has less than it needs
+abbrev pub refused_below : ℕ → ℕ → ℕ → Option Refusal
+refused_below file need have = if nat_lt have need then Some (record { file = file; need = need; have = have }) else None
+
 -- why a row can't stay, in bytes: an anchor's least is above its area's span, or a row that can't grow is below its definition's minimum
 abbrev pub refusal_of : List Want → ℕ → Extent → Option Refusal
 refusal_of wants limit e = option_and_then
     (λ file. if is_some (anchor_of limit e)
-    then (if nat_lt (limit - e.start / 8) (used_of (want_at wants file) e) then Some (record { file = file; need = 4096 * used_of (want_at wants file) e; have = 4096 * (limit - e.start / 8) }) else None)
-    else (if nat_lt (512 * e.size) (4096 * (want_at wants file).min) then Some (record { file = file; need = 4096 * (want_at wants file).min; have = 512 * e.size }) else None))
+    then refused_below file (4096 * used_of (want_at wants file) e) (4096 * (limit - e.start / 8))
+    else refused_below file (4096 * (want_at wants file).min) (512 * e.size))
     e.file
 
 -- the refusals among these extents, which are by rising start
@@ -91,7 +96,7 @@ lesser (Some b) r = Some (if nat_lt r.file b.file then r else b)
 abbrev pub least_refusal : List Refusal → Option Refusal
 least_refusal refusals = fold lesser None refusals
 
--- the areas of a table whose usable sectors end at `last`, or the refusal of the least file
+-- the areas of a table whose usable units end at `last`, or the refusal of the least file
 abbrev pub areas_of : Table → ℕ → List (Option ℕ) → List Want → Result (List Area) AreaFault
 areas_of table last matched wants =
     let extents = by_start (extents_of table.rows matched) in

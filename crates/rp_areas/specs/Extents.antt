@@ -1,4 +1,4 @@
--- What the code keeps of the sectors that rows take.
+-- What the code keeps of the units that rows take.
 use Rattle.std.specs.Prelude.{◌+◌, ◌<◌, ◌≤◌, ◌^◌, List, IfSome, length}
 use Rattle.rp_base.specs.declared.want.Want.{Want}
 use Rattle.rp_areas.specs.declared.extents.Extent.{Extent}

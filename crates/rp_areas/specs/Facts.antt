@@ -9,7 +9,8 @@ use Rattle.rp_areas.specs.Areas.{grains_up, want_at}
 abbrev pub IsWithin : ℕ → ℕ → Area → Type 0
 IsWithin first last area = (first ≤ 8 * area.from) × (0 < area.span → 8 * (area.from + area.span) ≤ last + 1)
 
--- an area's anchor is the row of its definition and begins the area; what it uses is its grains or its minimum, the greater, and its padding's minimum
+-- an area's anchor is the row of its definition and begins the area; what it uses is its grains or its minimum, the greater, and its
+-- padding's minimum
 pub record IsAnchor (rows : List Row) (matched : List (Option ℕ)) (wants : List Want) (area : Area) (file : ℕ) : Type 0 where
   pub place : ℕ
   pub row : Row
@@ -24,4 +25,5 @@ IsAnchored rows matched wants area = MatchOption area.anchor (area.used ≡ 0) (
 
 -- a row has no unit in an area, or is its anchor, which begins it and takes no more than the used grains
 abbrev pub IsClear : Area → Row → Type 0
-IsClear area row = (row.start + row.size ≤ 8 * area.from) ⊎ ((8 * (area.from + area.span) ≤ row.start) ⊎ (IsSome area.anchor × (row.start ≡ 8 * area.from) × (row.size ≤ 8 * area.used)))
+IsClear area row = (row.start + row.size ≤ 8 * area.from) ⊎ ((8 * (area.from + area.span) ≤ row.start) ⊎ (IsSome
+    area.anchor × (row.start ≡ 8 * area.from) × (row.size ≤ 8 * area.used)))

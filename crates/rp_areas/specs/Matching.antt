@@ -26,7 +26,8 @@ match_of rows kinds e = option_map (λ r. r.0) (slice_get (rows_of rows e.1) (ra
 abbrev pub matches_of : List Row → List Guid → List (Option ℕ)
 matches_of rows kinds = map (match_of rows kinds) (enumerate_from 0 kinds)
 
--- a definition has a row where their types agree and as many rows of that type stand before the row as definitions of it before the definition
+-- a definition has a row where their types agree and as many rows of that type stand before the row as definitions of it before the
+-- definition
 pub record IsMatched (rows : List Row) (kinds : List Guid) (file place : ℕ) : Type 0 where
   pub kind : Guid
   pub row : Row
@@ -39,7 +40,8 @@ pub record IsMatched (rows : List Row) (kinds : List Guid) (file place : ℕ) : 
 abbrev pub without : List (Option ℕ) → ℕ → ℕ
 without matched file = count_by is_none (take file matched)
 
--- a list of rows to which one was added, in order, for each definition that had none: the first rows have the types that the old ones had, and each other row the type of its definition
+-- a list of rows to which one was added, in order, for each definition that had none: the first rows have the types that the old ones
+-- had, and each other row the type of its definition
 pub record IsRefilled (old again : List Row) (kinds : List Guid) : Type 0 where
   pub first : take (length old) (map (λ (r : Row). r.kind) again) ≡ map (λ (r : Row). r.kind) old
   pub more : (file : ℕ) (kind : Guid) → slice_get kinds file ≡ Some kind → slice_get (matches_of old kinds) file ≡ Some None

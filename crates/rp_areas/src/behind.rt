@@ -7,8 +7,8 @@ use crate::Area;
 use crate::extents::Extent;
 use rp_base::{GRAIN, SECTOR, Want};
 
-// Sectors in a grain.
-const GRAIN_SECTORS: u64 = GRAIN / SECTOR;
+// Units of 512 bytes in a grain.
+const GRAIN_UNITS: u64 = GRAIN / SECTOR;
 
 // Why a row can't stay, in bytes.
 #[derive(Clone, Copy, Debug, PartialEq, Eq)]
@@ -18,11 +18,11 @@ pub struct Refusal {
     pub have: u64,
 }
 
-// Sectors in grains, rounded up.
-pub fn grains(sectors: u64) -> u64
-    ensures { result ≡ grains_up sectors }
+// Units in grains, rounded up.
+pub fn grains(units: u64) -> u64
+    ensures { result ≡ grains_up units }
 {
-    sectors.div_ceil(GRAIN_SECTORS)
+    units.div_ceil(GRAIN_UNITS)
 }
 
 // The grain at which an area ends that reaches up to these extents.
@@ -33,8 +33,8 @@ pub fn limit(last: u64, next: &[Extent]) -> u64
     ensures small { result ≤ 2 ^ 35 }
 {
     match next {
-        [] => (last + 1) / GRAIN_SECTORS,
-        [extent, ..] => extent.start / GRAIN_SECTORS,
+        [] => (last + 1) / GRAIN_UNITS,
+        [extent, ..] => extent.start / GRAIN_UNITS,
     }
 }
 
@@ -43,8 +43,8 @@ fn anchor(limit: u64, extent: Extent) -> Option<u16>
     requires { extent.start + extent.size ≤ 2 ^ 35 }
     ensures { result ≡ anchor_of limit extent }
 {
-    let begins = extent.start % GRAIN_SECTORS == 0;
-    if begins && extent.start / GRAIN_SECTORS + grains(extent.size) <= limit {
+    let begins = extent.start % GRAIN_UNITS == 0;
+    if begins && extent.start / GRAIN_UNITS + grains(extent.size) <= limit {
         extent.file
     } else {
         None
@@ -69,7 +69,7 @@ pub fn area_behind(wants: &[Want], limit: u64, extent: Extent) -> Area
 {
     match anchor(limit, extent) {
         Some(file) => {
-            let from = extent.start / GRAIN_SECTORS;
+            let from = extent.start / GRAIN_UNITS;
             Area {
                 from,
                 span: limit.saturating_sub(from),
@@ -100,7 +100,7 @@ pub fn refusal_for(wants: &[Want], limit: u64, extent: Extent) -> Option<Refusal
     let want = &wants[file as usize];
     let (need, have) = match anchor(limit, extent) {
         Some(_) => {
-            let span = limit.saturating_sub(extent.start / GRAIN_SECTORS);
+            let span = limit.saturating_sub(extent.start / GRAIN_UNITS);
             (GRAIN * used(want, extent), GRAIN * span)
         }
         None => (GRAIN * want.min, SECTOR * extent.size),

@@ -5,7 +5,7 @@ use rp_base::{Memory, Row};
 use std::alloc::Global;
 use std::collections::BTreeMap;
 
-// The sectors of a row, and the definition that it belongs to.
+// The units of 512 bytes of a row, and the definition that it belongs to.
 #[derive(Clone, Copy, Debug, PartialEq, Eq)]
 pub struct Extent {
     pub start: u64,
@@ -13,7 +13,7 @@ pub struct Extent {
     pub file: Option<u16>,
 }
 
-// The sectors of each row with its definition, in slot order.
+// The units of each row with its definition, in slot order.
 pub fn extents(alloc: Global, rows: &[Row], matched: &[Option<u16>]) -> Result<Vec<Extent>, Memory>
     requires few { length matched.now ≤ 65535 }
     requires places { All (λ place. IfSome place (λ p. p < length rows.now)) matched.now }

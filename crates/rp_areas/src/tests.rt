@@ -10,10 +10,10 @@ use std::test::Fail;
 
 const FIRST: u64 = 2048;
 
-// A 64 MiB image's last usable sector.
+// A 64 MiB image's last usable unit.
 const LAST: u64 = 131_038;
 
-// Rows as type, first sector and sectors; definitions as type, minimum and minimum padding in grains.
+// Rows as type, first unit and units; definitions as type, minimum and minimum padding in grains.
 #[derive(Clone, Copy)]
 struct Case<'a> {
     name: &'a str,

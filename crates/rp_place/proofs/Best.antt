@@ -22,15 +22,18 @@ best_among areas rooms need n = fold lesser None (filter (λ c. nat_le need c.av
 length-candidates : (areas : List Area) (rooms : List ℕ) → length (candidates areas rooms) ≡ length areas
 length-candidates areas rooms = length-map (enumerate_from 0 areas) (candidate_of rooms) ∙ length-enumerate_from 0 areas
 
-candidate_at : (areas : List Area) (rooms : List ℕ) (i : ℕ) (d : Area) (e : Candidate) → i < length areas → get_or (candidates areas rooms) i e ≡ candidate_of rooms (i, get_or areas i d)
+candidate_at : (areas : List Area) (rooms : List ℕ) (i : ℕ) (d : Area) (e : Candidate) → i < length areas
+    → get_or (candidates areas rooms) i e ≡ candidate_of rooms (i, get_or areas i d)
 candidate_at areas rooms i d e below =
     let l : i < length (enumerate_from 0 areas) = rw length-enumerate_from below in
     get_or-map (candidate_of rooms) (enumerate_from 0 areas) i (0, d) e l
     ∙ ap (candidate_of rooms) (get_or-enumerate_from 0 areas i (0, d) below ∙ ap (λ n. (n, get_or areas i d)) (zero-add i))
 
 -- one more candidate
-best_more : (areas : List Area) (rooms : List ℕ) (need i : ℕ) (d : Area) (b : Bool) → i < length areas → nat_le need (slice_index rooms i) ≡ b
-    → best_among areas rooms need (i + 1) ≡ cond b (lesser (best_among areas rooms need i) (candidate_of rooms (i, get_or areas i d))) (best_among areas rooms need i)
+best_more : (areas : List Area) (rooms : List ℕ) (need i : ℕ) (d : Area) (b : Bool) → i < length areas
+    → nat_le need (slice_index rooms i) ≡ b
+    → best_among areas rooms need (i + 1) ≡ cond b (lesser (best_among areas rooms need i) (candidate_of rooms (i, get_or areas i d)))
+    (best_among areas rooms need i)
 best_more areas rooms need i d true below is =
     let e : Candidate = candidate_of rooms (i, get_or areas i d) in
     let l : i < length (candidates areas rooms) = rw length-candidates below in
@@ -48,14 +51,19 @@ best_more areas rooms need i d false below is =
     ∙ ap (λ t. filter (λ x. nat_le need x.available) (take i (candidates areas rooms)) ++ cond t (e ∷ []) []) is
     ∙ append-nil (filter (λ x. nat_le need x.available) (take i (candidates areas rooms))))
 
-pub best_yes : (areas : List Area) (rooms : List ℕ) (need i : ℕ) (d : Area) (best : Option Candidate) (c : Candidate) → i < length areas → need ≤ slice_index rooms i
-    → best ≡ best_among areas rooms need i → lesser best (candidate_of rooms (i, get_or areas i d)) ≡ Some c → Some c ≡ best_among areas rooms need (i + 1)
+pub best_yes : (areas : List Area) (rooms : List ℕ) (need i : ℕ) (d : Area) (best : Option Candidate) (c : Candidate) → i < length areas
+    → need ≤ slice_index rooms i
+    → best ≡ best_among areas rooms need i → lesser best (candidate_of rooms (i, get_or areas i d)) ≡ Some c
+    → Some c ≡ best_among areas rooms need (i + 1)
 best_yes areas rooms need i d best c below room is next =
-    sym next ∙ ap (λ b. lesser b (candidate_of rooms (i, get_or areas i d))) is ∙ sym (best_more areas rooms need i d true below (le-leb need (slice_index rooms i) room))
+    sym next ∙ ap (λ b. lesser b (candidate_of rooms (i, get_or areas i d))) is
+    ∙ sym (best_more areas rooms need i d true below (le-leb need (slice_index rooms i) room))
 
-pub best_no : (areas : List Area) (rooms : List ℕ) (need i : ℕ) (d : Area) (best : Option Candidate) → i < length areas → slice_index rooms i < need
+pub best_no : (areas : List Area) (rooms : List ℕ) (need i : ℕ) (d : Area) (best : Option Candidate) → i < length areas
+    → slice_index rooms i < need
     → best ≡ best_among areas rooms need i → best ≡ best_among areas rooms need (i + 1)
-best_no areas rooms need i d best below room is = is ∙ sym (best_more areas rooms need i d false below (lt-leb need (slice_index rooms i) room))
+best_no areas rooms need i d best below room is = is ∙ sym (best_more areas rooms need i d false below
+    (lt-leb need (slice_index rooms i) room))
 
 -- what the least candidate is
 pub record IsRoomy (areas : List Area) (rooms : List ℕ) (need : ℕ) (c : Candidate) : Type 0 where
@@ -68,27 +76,33 @@ lesser_keeps : (P : Candidate → Type 0) (best : Option Candidate) (c : Candida
 lesser_keeps P None c kept here = here
 lesser_keeps P (Some b) c kept here = cond_both (precedes c b) c b P (λ _. here) (λ _. kept)
 
-least_keeps : (P : Candidate → Type 0) (best : Option Candidate) (cs : List Candidate) → IfSome best P → All P cs → IfSome (fold lesser best cs) P
+least_keeps : (P : Candidate → Type 0) (best : Option Candidate) (cs : List Candidate) → IfSome best P → All P cs
+    → IfSome (fold lesser best cs) P
 least_keeps P best [] kept each = kept
-least_keeps P best (c ∷ cs) kept each = least_keeps P (lesser best c) cs (lesser_keeps P best c kept (All-head P c cs each)) (All-tail P c cs each)
+least_keeps P best (c ∷ cs) kept each = least_keeps P (lesser best c) cs (lesser_keeps P best c kept (All-head P c cs each))
+    (All-tail P c cs each)
 
-pass_one : (p : Candidate → Bool) (P : Candidate → Type 0) (c : Candidate) (cs : List Candidate) (b : Bool) → p c ≡ b → (p c ≡ true → P c) → All P (filter p cs) → All P (cond b (c ∷ filter p cs) (filter p cs))
+pass_one : (p : Candidate → Bool) (P : Candidate → Type 0) (c : Candidate) (cs : List Candidate) (b : Bool) → p c ≡ b
+    → (p c ≡ true → P c) → All P (filter p cs) → All P (cond b (c ∷ filter p cs) (filter p cs))
 pass_one p P c cs true is here rest = All-cons P c (filter p cs) (here is) rest
 pass_one p P c cs false is here rest = rest
 
 -- what holds of those that pass
 passed : (p : Candidate → Bool) (P : Candidate → Type 0) (cs : List Candidate) → All (λ c. p c ≡ true → P c) cs → All P (filter p cs)
 passed p P [] each = All-nil P
-passed p P (c ∷ cs) each = pass_one p P c cs (p c) refl (All-head (λ x. p x ≡ true → P x) c cs each) (passed p P cs (All-tail (λ x. p x ≡ true → P x) c cs each))
+passed p P (c ∷ cs) each = pass_one p P c cs (p c) refl (All-head (λ x. p x ≡ true → P x) c cs each)
+    (passed p P cs (All-tail (λ x. p x ≡ true → P x) c cs each))
 
 abbrev pub no_area : Area
 no_area = record { from = 0; span = 0; anchor = None; used = 0 }
 
 pub best_roomy : (areas : List Area) (rooms : List ℕ) (need : ℕ) → IfSome (best_of areas rooms need) (IsRoomy areas rooms need)
-best_roomy areas rooms need = least_keeps (IsRoomy areas rooms need) None (filter (λ c. nat_le need c.available) (candidates areas rooms)) tt
+best_roomy areas rooms need = least_keeps (IsRoomy areas rooms need) None
+    (filter (λ c. nat_le need c.available) (candidates areas rooms)) tt
     (passed (λ c. nat_le need c.available) (IsRoomy areas rooms need) (candidates areas rooms) (λ k d below roomy.
     let l : k < length areas = omega (arith, below, length-candidates areas rooms) in
-    let at : get_or (candidates areas rooms) k d ≡ candidate_of rooms (k, get_or areas k no_area) = candidate_at areas rooms k no_area d l in
+    let at : get_or (candidates areas rooms) k d ≡ candidate_of rooms (k, get_or areas k no_area) = candidate_at areas rooms k no_area d
+    l in
     rw at (record { place = l; available = refl; from = refl; room = leb-true need (slice_index rooms k) (rw at at roomy) })))
 
 -- Whether a candidate precedes another is their order.
@@ -101,14 +115,45 @@ decided a b = elim (cases_lt a.available b.available) [
         let beyond : b.available < a.available = omega (arith, more, differs) in
         inr (rw (le-ltb a.available b.available more, ne_eqb a.available b.available differs) refl, inl beyond)
     | inl same ↦ elim (cases_lt a.from b.from) [
-      | inl before ↦ inl (rw (le-ltb a.available b.available more, eq-eqb a.available b.available same, lt-ltb a.from b.from before) refl, inr (same, inl before))
+      | inl before ↦ inl (
+        rw (le-ltb a.available b.available more, eq-eqb a.available b.available same, lt-ltb a.from b.from before)
+            refl,
+        inr (same, inl before),
+      )
       | inr behind ↦ elim (cases_eq a.from b.from) [
         | inr apart ↦
             let beyond : b.from < a.from = omega (arith, behind, apart) in
-            inr (rw (le-ltb a.available b.available more, eq-eqb a.available b.available same, le-ltb a.from b.from behind, ne_eqb a.from b.from apart) refl, inr (sym same, inl beyond))
+            inr (
+              rw (
+                le-ltb a.available b.available more,
+                eq-eqb a.available b.available same,
+                le-ltb a.from b.from behind,
+                ne_eqb a.from
+                    b.from apart,
+              ) refl,
+              inr (sym same, inl beyond),
+            )
         | inl one ↦ elim (cases_lt a.place b.place) [
-          | inl lower ↦ inl (rw (le-ltb a.available b.available more, eq-eqb a.available b.available same, le-ltb a.from b.from behind, eq-eqb a.from b.from one, lt-ltb a.place b.place lower) refl, inr (same, inr (one, omega (arith, lower))))
-          | inr higher ↦ inr (rw (le-ltb a.available b.available more, eq-eqb a.available b.available same, le-ltb a.from b.from behind, eq-eqb a.from b.from one, le-ltb a.place b.place higher) refl, inr (sym same, inr (sym one, higher)))
+          | inl lower ↦ inl (
+            rw (
+              le-ltb a.available b.available more,
+              eq-eqb a.available b.available same,
+              le-ltb a.from b.from behind,
+              eq-eqb a.from b.from one,
+              lt-ltb a.place b.place lower,
+            ) refl,
+            inr (same, inr (one, omega (arith, lower))),
+          )
+          | inr higher ↦ inr (
+            rw (
+              le-ltb a.available b.available more,
+              eq-eqb a.available b.available same,
+              le-ltb a.from b.from behind,
+              eq-eqb a.from b.from one,
+              le-ltb a.place b.place higher,
+            ) refl,
+            inr (sym same, inr (sym one, higher)),
+          )
         ]
       ]
     ]
@@ -156,32 +201,40 @@ least_of_all c (x ∷ xs) is = let all = least_of x c xs is in All-cons (IsNoLat
 pub from_passed : {X : Type 0} (p : X → Bool) (P : X → Type 0) (xs : List X) → All P (filter p xs) → All (λ x. p x ≡ true → P x) xs
 from_passed p P [] each = All-nil (λ x. p x ≡ true → P x)
 from_passed p P (x ∷ xs) each = cond_both (p x) (x ∷ filter p xs) (filter p xs) (λ ys. All P ys → All (λ x. p x ≡ true → P x) (x ∷ xs))
-    (λ _ all. All-cons (λ x. p x ≡ true → P x) x xs (λ _. All-head P x (filter p xs) all) (from_passed p P xs (All-tail P x (filter p xs) all)))
+    (λ _ all. All-cons (λ x. p x ≡ true → P x) x xs (λ _. All-head P x (filter p xs) all)
+    (from_passed p P xs (All-tail P x (filter p xs) all)))
     (λ fails all. All-cons (λ x. p x ≡ true → P x) x xs (λ passes. absurd (both_ways (p x) fails passes)) (from_passed p P xs all))
     each
 
 -- the least candidate is the least area with room
-pub best_least : (areas : List Area) (rooms : List ℕ) (need : ℕ) (c : Candidate) → IsRoomy areas rooms need c → best_of areas rooms need ≡ Some c → IsLeast areas (slice_index rooms) need c.place
+pub best_least : (areas : List Area) (rooms : List ℕ) (need : ℕ) (c : Candidate) → IsRoomy areas rooms need c
+    → best_of areas rooms need ≡ Some c → IsLeast areas (slice_index rooms) need c.place
 best_least areas rooms need c roomy best = record {
   place = roomy.place;
   room = omega (arith, roomy.room, roomy.available);
   least = λ other below fits.
       let d : Candidate = candidate_of rooms (other, get_or areas other no_area) in
-      let all = from_passed (λ (x : Candidate). nat_le need x.available) (IsNoLater c) (candidates areas rooms) (least_of_all c (filter (λ x. nat_le need x.available) (candidates areas rooms)) best) in
+      let all = from_passed (λ (x : Candidate). nat_le need x.available) (IsNoLater c) (candidates areas rooms)
+      (least_of_all c (filter (λ x. nat_le need x.available) (candidates areas rooms)) best) in
       let l : other < length (candidates areas rooms) = rw length-candidates below in
       let at : get_or (candidates areas rooms) other d ≡ d = candidate_at areas rooms other no_area d below in
-      let here : IsNoLater c d = subst (λ (x : Candidate). nat_le need x.available ≡ true → IsNoLater c x) at (all other d l) (le-leb need (slice_index rooms other) fits) in
+      let here : IsNoLater c d = subst (λ (x : Candidate). nat_le need x.available ≡ true → IsNoLater c x) at (all other d l)
+      (le-leb need (slice_index rooms other) fits) in
       rw (sym roomy.available, sym roomy.from) here;
 }
 
-pub best_all : (areas : List Area) (rooms : List ℕ) (need n : ℕ) → length areas ≤ n → best_among areas rooms need n ≡ best_of areas rooms need
-best_all areas rooms need n all = ap (λ cs. fold lesser None (filter (λ c. nat_le need c.available) cs)) (take_all n (candidates areas rooms) (rw length-candidates all))
+pub best_all : (areas : List Area) (rooms : List ℕ) (need n : ℕ) → length areas ≤ n
+    → best_among areas rooms need n ≡ best_of areas rooms need
+best_all areas rooms need n all = ap (λ cs. fold lesser None (filter (λ c. nat_le need c.available) cs))
+    (take_all n (candidates areas rooms) (rw length-candidates all))
 
-roomy_place : (areas : List Area) (rooms : List ℕ) (need : ℕ) (o : Option Candidate) → IfSome o (IsRoomy areas rooms need) → IfSome o (λ c. c.place < length areas)
+roomy_place : (areas : List Area) (rooms : List ℕ) (need : ℕ) (o : Option Candidate) → IfSome o (IsRoomy areas rooms need)
+    → IfSome o (λ c. c.place < length areas)
 roomy_place areas rooms need None roomy = tt
 roomy_place areas rooms need (Some c) roomy = roomy.place
 
-roomy_room : (areas : List Area) (rooms : List ℕ) (need : ℕ) (o : Option Candidate) → IfSome o (IsRoomy areas rooms need) → IfSome o (λ c. need ≤ c.available)
+roomy_room : (areas : List Area) (rooms : List ℕ) (need : ℕ) (o : Option Candidate) → IfSome o (IsRoomy areas rooms need)
+    → IfSome o (λ c. need ≤ c.available)
 roomy_room areas rooms need None roomy = tt
 roomy_room areas rooms need (Some c) roomy = roomy.room
 

@@ -32,7 +32,11 @@ later n ns u r side = record {
   next = r.next;
   low = r.low;
   high = r.high;
-  occurs = elim r.occurs [ inl e ↦ inl e | inr h ↦ inr (Contains-append_right ((n.priority -ℤ pos 1) ∷ []) (map (λ (m : New). m.priority -ℤ pos 1) ns) r.next h) ];
+  occurs = elim r.occurs [
+    | inl e ↦ inl e
+    | inr h ↦ inr (Contains-append_right ((n.priority -ℤ pos 1) ∷ [])
+        (map (λ (m : New). m.priority -ℤ pos 1) ns) r.next h)
+  ];
   same = All-cons (Side u r.next) n ns side r.same;
 }
 
@@ -43,7 +47,8 @@ nearer n ns u r above within = record {
   high = let high = r.high in omega (arith, ints, within, high);
   occurs = inr (0, omega arith, refl);
   same = All-cons (Side u (n.priority -ℤ pos 1)) n ns (inr (omega (arith, ints)))
-      (All-weaker (Side u r.next) (Side u (n.priority -ℤ pos 1)) (λ m side. elim side [ inl q ↦ inl q | inr q ↦ inr (omega (arith, ints, q, within)) ]) ns r.same);
+      (All-weaker (Side u r.next) (Side u (n.priority -ℤ pos 1)) (λ m side. elim side
+      [ inl q ↦ inl q | inr q ↦ inr (omega (arith, ints, q, within)) ]) ns r.same);
 }
 
 next_of : (news : List New) (u : ℤ) → u ≤ℤ top → Next news u
@@ -95,7 +100,8 @@ module _ (areas : List Area) (news : List New) (free : ℕ) where
   reached : (m ≡ pos 0) ⊎ Succeeds m
   reached = elim (fold-int_max_reached (pos 0) looked_at m refl) [
     | inl zero ↦ inl zero
-    | inr found ↦ inr (from_test m (All-contains (λ t. succeeds_at areas news free t ≡ true) looked_at m (filter_passes (succeeds_at areas news free) (thresholds news)) found))
+    | inr found ↦ inr (from_test m (All-contains (λ t. succeeds_at areas news free t ≡ true) looked_at m
+        (filter_passes (succeeds_at areas news free) (thresholds news)) found))
   ]
 
   low : pos 0 ≤ℤ m
@@ -108,15 +114,22 @@ module _ (areas : List Area) (news : List New) (free : ℕ) where
   not_above : (u : ℤ) → Succeeds u → u ≤ℤ m
   not_above u is =
       let r = next_of news u is.high in
-      let alike : tried areas news free u ≡ tried areas news free r.next = same_between areas news free r.next u u r.same (omega (arith, ints)) r.low in
+      let alike : tried areas news free u ≡ tried areas news free r.next = same_between areas news free r.next u u r.same
+      (omega (arith, ints)) r.low in
       let ok : IsOk (tried areas news free r.next) = subst (λ (answer : Result (List (Option ℕ)) PlaceFault). IsOk answer) alike is.ok in
-      let test = to_test r.next (record { low = let low = r.low in let zero = is.low in omega (arith, ints, low, zero); high = r.high; ok = ok }) in
+      let test = to_test r.next (record {
+        low = let low = r.low in let zero = is.low in omega (arith, ints, low, zero);
+        high = r.high;
+        ok = ok;
+      }) in
       let stands : Contains (thresholds news) r.next = elim r.occurs [
         | inl e ↦ (0, omega arith, sym e)
         | inr h ↦ Contains-append_right (top ∷ []) (map (λ (n : New). n.priority -ℤ pos 1) news) r.next h
       ] in
-      let all = from_passed (succeeds_at areas news free) (λ t. t ≤ℤ m) (thresholds news) (fold-int_max_bounds (pos 0) looked_at m refl).1 in
-      let within : r.next ≤ℤ m = All-contains (λ t. succeeds_at areas news free t ≡ true → t ≤ℤ m) (thresholds news) r.next all stands test in
+      let all = from_passed (succeeds_at areas news free) (λ t. t ≤ℤ m) (thresholds news)
+      (fold-int_max_bounds (pos 0) looked_at m refl).1 in
+      let within : r.next ≤ℤ m = All-contains (λ t. succeeds_at areas news free t ≡ true → t ≤ℤ m) (thresholds news) r.next all stands
+      test in
       let below = r.low in
       omega (arith, ints, within, below)
 
@@ -141,10 +154,12 @@ module _ (areas : List Area) (news : List New) (free : ℕ) where
   one_kept : (t s : ℤ) → IsKept areas news free t → IsKept areas news free s → t ≡ s
   one_kept t s a b =
       by_lt_z t s (λ less. absurd (ok_no_err (tried areas news free s) b.succeeds (a.greatest s less b.high)))
-      (λ above. by_lt_z s t (λ less. absurd (ok_no_err (tried areas news free t) a.succeeds (b.greatest t less a.high))) (λ below. same_number t s below above))
+      (λ above. by_lt_z s t (λ less. absurd (ok_no_err (tried areas news free t) a.succeeds (b.greatest t less a.high)))
+      (λ below. same_number t s below above))
 
   -- the greatest threshold that succeeds gives the kept placement
-  pub settled_ok : (t : ℤ) (places : List (Option ℕ)) → pos 0 ≤ℤ t → t ≤ℤ top → ((other : ℤ) → t <ℤ other → other ≤ℤ top → IsErr (tried areas news free other))
+  pub settled_ok : (t : ℤ) (places : List (Option ℕ)) → pos 0 ≤ℤ t → t ≤ℤ top
+      → ((other : ℤ) → t <ℤ other → other ≤ℤ top → IsErr (tried areas news free other))
       → tried areas news free t ≡ Ok places → settled areas news free ≡ Ok (record { threshold = t; areas = places })
   settled_ok t places first last greatest answer =
       let ok : IsOk (tried areas news free t) = ok_is (tried areas news free t) places answer in
@@ -162,16 +177,20 @@ module _ (areas : List Area) (news : List New) (free : ℕ) where
       ap (λ (u : ℤ). with_threshold u (tried areas news free u)) zero ∙ ap (with_threshold (pos 0)) refused.at_zero
 
   -- what is said of a placement, from what it is
-  tried_of : (t : ℤ) (answer : Result (List (Option ℕ)) PlaceFault) (placement : Placed) → with_threshold t answer ≡ Ok placement → (t ≡ placement.threshold) × (answer ≡ Ok placement.areas)
+  tried_of : (t : ℤ) (answer : Result (List (Option ℕ)) PlaceFault) (placement : Placed) → with_threshold t answer ≡ Ok placement
+      → (t ≡ placement.threshold) × (answer ≡ Ok placement.areas)
   tried_of t (Ok places) placement is =
       let e : ◌≡◌ {A = Result Placed PlaceFault} (Ok (record { threshold = t; areas = places })) (Ok placement) = is in
       let same : record { threshold = t; areas = places } ≡ placement = cc in
       (ap (λ (p : Placed). p.threshold) same, ap (λ (p : Placed). Ok p.areas) same)
   tried_of t (Err fault) placement is = absurd (let e : ◌≡◌ {A = Result Placed PlaceFault} (Err fault) (Ok placement) = is in cc)
 
-  fault_of : (t : ℤ) (answer : Result (List (Option ℕ)) PlaceFault) (fault : PlaceFault) → with_threshold t answer ≡ Err fault → answer ≡ Err fault
-  fault_of t (Ok places) fault is = absurd (let e : ◌≡◌ {A = Result Placed PlaceFault} (Ok (record { threshold = t; areas = places })) (Err fault) = is in cc)
-  fault_of t (Err other) fault is = let e : ◌≡◌ {A = Result Placed PlaceFault} (Err other) (Err fault) = is in let same : other ≡ fault = cc in ap (λ (f : PlaceFault). Err f) same
+  fault_of : (t : ℤ) (answer : Result (List (Option ℕ)) PlaceFault) (fault : PlaceFault) → with_threshold t answer ≡ Err fault
+      → answer ≡ Err fault
+  fault_of t (Ok places) fault is = absurd (let e : ◌≡◌ {A = Result Placed PlaceFault} (Ok (record { threshold = t; areas = places }))
+      (Err fault) = is in cc)
+  fault_of t (Err other) fault is = let e : ◌≡◌ {A = Result Placed PlaceFault} (Err other) (Err fault) = is in let same : other ≡ fault =
+      cc in ap (λ (f : PlaceFault). Err f) same
 
   module _ (placement : Placed) (is : settled areas news free ≡ Ok placement) where
     pub tried_settled : tried areas news free placement.threshold ≡ Ok placement.areas
@@ -201,6 +220,7 @@ module _ (areas : List Area) (news : List New) (free : ℕ) where
       let never : IsOk (tried areas news free m) → ⊥ = λ ok. ok_no_err (tried areas news free m) ok (rw at refl) in
       let zero : m ≡ pos 0 = elim reached [ inl zero ↦ zero | inr found ↦ absurd (never found.ok) ] in
       record {
-        none = λ t first last. not_ok (tried areas news free t) (λ ok. let kept = kept_is t (record { low = first; high = last; ok = ok }) in never kept.succeeds);
+        none = λ t first last. not_ok (tried areas news free t) (λ ok. let kept = kept_is t
+            (record { low = first; high = last; ok = ok }) in never kept.succeeds);
         at_zero = subst (λ (t : ℤ). tried areas news free t ≡ Err fault) zero at;
       }

@@ -25,30 +25,41 @@ after-push places p (Err fault) = refl
 -- the answer after one more definition
 abbrev next : List Area → ℤ → List ℕ → New → List New → Bool → Option Candidate → Answer
 next areas t rooms n ns kept best = cond kept
-    (option_map_or (λ c. before_all (Some c.place) (placed_in areas t (slice_set rooms c.place (c.available - n.need)) ns)) best (Err (Room n.file n.need (fold max 0 rooms))))
+    (option_map_or (λ c. before_all (Some c.place) (placed_in areas t (slice_set rooms c.place (c.available - n.need)) ns)) best
+    (Err (Room n.file n.need (fold max 0 rooms))))
     (before_all None (placed_in areas t rooms ns))
 
-pub step_dropped : (areas : List Area) (t : ℤ) (rooms : List ℕ) (places : List (Option ℕ)) (news : List New) (i : ℕ) (d : New) (whole : Answer) → i < length news
+pub step_dropped : (areas : List Area) (t : ℤ) (rooms : List ℕ) (places : List (Option ℕ)) (news : List New) (i : ℕ) (d : New)
+    (whole : Answer) → i < length news
     → int_le (get_or news i d).priority t ≡ false → after places (placed_in areas t rooms (drop i news)) ≡ whole
     → after (places ++ None ∷ []) (placed_in areas t rooms (drop (i + 1) news)) ≡ whole
 step_dropped areas t rooms places news i d whole below test is =
     after-push places None (placed_in areas t rooms (drop (i + 1) news))
-    ∙ ap (after places) (sym (ap (λ b. next areas t rooms (get_or news i d) (drop (i + 1) news) b (best_of areas rooms (get_or news i d).need)) test))
+    ∙ ap (after places) (sym (ap (λ b. next areas t rooms (get_or news i d) (drop (i + 1) news) b
+    (best_of areas rooms (get_or news i d).need)) test))
     ∙ ap (λ ns. after places (placed_in areas t rooms ns)) (sym (drop_more news i d below)) ∙ is
 
-pub step_placed : (areas : List Area) (t : ℤ) (rooms : List ℕ) (places : List (Option ℕ)) (news : List New) (i : ℕ) (d : New) (c : Candidate) (whole : Answer) → i < length news
-    → int_le (get_or news i d).priority t ≡ true → best_of areas rooms (get_or news i d).need ≡ Some c → after places (placed_in areas t rooms (drop i news)) ≡ whole
-    → after (places ++ Some c.place ∷ []) (placed_in areas t (slice_set rooms c.place (c.available - (get_or news i d).need)) (drop (i + 1) news)) ≡ whole
+pub step_placed : (areas : List Area) (t : ℤ) (rooms : List ℕ) (places : List (Option ℕ)) (news : List New) (i : ℕ) (d : New)
+    (c : Candidate) (whole : Answer) → i < length news
+    → int_le (get_or news i d).priority t ≡ true → best_of areas rooms (get_or news i d).need ≡ Some c
+    → after places (placed_in areas t rooms (drop i news)) ≡ whole
+    → after (places ++ Some c.place ∷ []) (placed_in areas t (slice_set rooms c.place (c.available - (get_or news i d).need))
+    (drop (i + 1) news)) ≡ whole
 step_placed areas t rooms places news i d c whole below test best is =
-    after-push places (Some c.place) (placed_in areas t (slice_set rooms c.place (c.available - (get_or news i d).need)) (drop (i + 1) news))
-    ∙ ap (after places) (sym (ap (λ b. next areas t rooms (get_or news i d) (drop (i + 1) news) b (best_of areas rooms (get_or news i d).need)) test
+    after-push places (Some c.place) (placed_in areas t (slice_set rooms c.place (c.available - (get_or news i d).need))
+    (drop (i + 1) news))
+    ∙ ap (after places) (sym (ap (λ b. next areas t rooms (get_or news i d) (drop (i + 1) news) b
+    (best_of areas rooms (get_or news i d).need)) test
     ∙ ap (λ o. next areas t rooms (get_or news i d) (drop (i + 1) news) true o) best))
     ∙ ap (λ ns. after places (placed_in areas t rooms ns)) (sym (drop_more news i d below)) ∙ is
 
-pub step_none : (areas : List Area) (t : ℤ) (rooms : List ℕ) (places : List (Option ℕ)) (news : List New) (i : ℕ) (d : New) (whole : Answer) → i < length news
-    → int_le (get_or news i d).priority t ≡ true → best_of areas rooms (get_or news i d).need ≡ None → after places (placed_in areas t rooms (drop i news)) ≡ whole
+pub step_none : (areas : List Area) (t : ℤ) (rooms : List ℕ) (places : List (Option ℕ)) (news : List New) (i : ℕ) (d : New)
+    (whole : Answer) → i < length news
+    → int_le (get_or news i d).priority t ≡ true → best_of areas rooms (get_or news i d).need ≡ None
+    → after places (placed_in areas t rooms (drop i news)) ≡ whole
     → Err (Room (get_or news i d).file (get_or news i d).need (fold max 0 rooms)) ≡ whole
 step_none areas t rooms places news i d whole below test best is =
-    ap (after places) (sym (ap (λ b. next areas t rooms (get_or news i d) (drop (i + 1) news) b (best_of areas rooms (get_or news i d).need)) test
+    ap (after places) (sym (ap (λ b. next areas t rooms (get_or news i d) (drop (i + 1) news) b
+    (best_of areas rooms (get_or news i d).need)) test
     ∙ ap (λ o. next areas t rooms (get_or news i d) (drop (i + 1) news) true o) best))
     ∙ ap (λ ns. after places (placed_in areas t rooms ns)) (sym (drop_more news i d below)) ∙ is

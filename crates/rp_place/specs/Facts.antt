@@ -1,4 +1,5 @@
--- What holds of placings: each new partition has the least area with room, all fit, and no greater threshold succeeds (repart.d(5), Priority=; the choice of the area is this project's own).
+-- What holds of placings: each new partition has the least area with room, all fit, and no greater threshold succeeds (repart.d(5),
+-- Priority=; the choice of the area is this project's own).
 use Rattle.std.specs.Prelude.{ℕ, ℤ, pos, ◌+◌, ◌-◌, ◌<◌, ◌≤◌, ◌≤ℤ◌, ◌<ℤ◌, ◌≡◌, ◌⊎◌, ◌^◌, ◌==◌, if◌then◌else◌, false, Option, Some, None, Err, List, [], ◌∷◌, All, IfSome, IsErr, IsOk, MatchOption, is_some, int_le, length, take, slice_get, slice_index_or}
 use Rattle.std.specs.List.{AllZip}
 use Rattle.std.specs.Option.{option_map_or}
@@ -18,7 +19,8 @@ needs_in area (n ∷ ns) (p ∷ ps) = (if option_map_or (λ place. place == area
 abbrev pub area_at : List Area → ℕ → Area
 area_at areas place = slice_index_or areas place (record { from = 0; span = 0; anchor = None; used = 0 })
 
--- the grains that are available in an area for the new definition at place k: those of its span that are neither used nor taken by new ones before
+-- the grains that are available in an area for the new definition at place k: those of its span that are neither used nor taken by new
+-- ones before
 abbrev pub available_in : List Area → List New → List (Option ℕ) → ℕ → ℕ → ℕ
 available_in areas news places k area = (area_at areas area).span - (area_at areas area).used - needs_in area (take k news) (take k places)
 
@@ -34,13 +36,15 @@ as_candidate areas available area = record { available = available area; from = 
 pub record IsLeast (areas : List Area) (available : ℕ → ℕ) (need area : ℕ) : Type 0 where
   pub place : area < length areas
   pub room : need ≤ available area
-  pub least : (other : ℕ) → other < length areas → need ≤ available other → IsNoLater (as_candidate areas available area) (as_candidate areas available other)
+  pub least : (other : ℕ) → other < length areas → need ≤ available other
+      → IsNoLater (as_candidate areas available area) (as_candidate areas available other)
 
 -- each new definition of priority at most the threshold has, in order, the least area with room for its need, and no other has one
 pub record IsPlaced (areas : List Area) (news : List New) (threshold : ℤ) (places : List (Option ℕ)) : Type 0 where
   pub one_each : length places ≡ length news
   pub each : (k : ℕ) (n : New) (p : Option ℕ) → slice_get news k ≡ Some n → slice_get places k ≡ Some p
-      → MatchOption p (threshold <ℤ n.priority) (λ area. (n.priority ≤ℤ threshold) × IsLeast areas (available_in areas news places k) n.need area)
+      → MatchOption p (threshold <ℤ n.priority) (λ area. (n.priority ≤ℤ threshold) × IsLeast areas (available_in areas news places k)
+      n.need area)
 
 -- each place is an area's, those of priority at most the threshold have one, and with what is used the needs placed in an area fit its span
 pub record IsPlacement (areas : List Area) (news : List New) (threshold : ℤ) (places : List (Option ℕ)) : Type 0 where

@@ -1,4 +1,5 @@
--- Where new partitions go (repart.d(5), Priority=: of what doesn't fit, the highest numbers are dropped first, those of 0 or lower never; the choice of the area is this project's own).
+-- Where new partitions go (repart.d(5), Priority=: of what doesn't fit, the highest numbers are dropped first, those of 0 or lower
+-- never; the choice of the area is this project's own).
 use Rattle.std.specs.Prelude.{ℕ, ℤ, pos, ◌-◌, ◌-ℤ◌, ◌^◌, ◌==◌, nat_lt, nat_le, if◌then◌else◌, max, Bool, ◌&&◌, ◌||◌, Option, Some, None, Result, Ok, Err, is_ok, List, [], ◌∷◌, map, fold, filter, slice_get, slice_index, slice_set, int_le}
 use Rattle.std.specs.Int.{int_max}
 use Rattle.std.specs.List.{enumerate_from}
@@ -16,7 +17,8 @@ candidate_of rooms e = record { available = slice_index rooms e.0; from = e.1.fr
 
 -- the order of candidates: by what is available, then by their first grains, then by their places
 abbrev pub precedes : Candidate → Candidate → Bool
-precedes a b = nat_lt a.available b.available || ((a.available == b.available) && (nat_lt a.from b.from || ((a.from == b.from) && nat_lt a.place b.place)))
+precedes a b = nat_lt a.available b.available || ((a.available == b.available) &&
+    (nat_lt a.from b.from || ((a.from == b.from) && nat_lt a.place b.place)))
 
 -- the lesser of two candidates
 abbrev pub lesser : Option Candidate → Candidate → Option Candidate
@@ -32,7 +34,8 @@ abbrev pub before_all : Option ℕ → Result (List (Option ℕ)) PlaceFault →
 before_all place (Ok places) = Ok (place ∷ places)
 before_all place (Err fault) = Err fault
 
--- the areas of new definitions, where so many grains are available in each area: in order, each of priority at most the threshold goes to the least area with room
+-- the areas of new definitions, where so many grains are available in each area: in order, each of priority at most the threshold goes
+-- to the least area with room
 abbrev pub placed_in : List Area → ℤ → List ℕ → List New → Result (List (Option ℕ)) PlaceFault
 placed_in areas threshold rooms [] = Ok []
 placed_in areas threshold rooms (n ∷ ns) = if int_le n.priority threshold
@@ -64,7 +67,8 @@ thresholds news = pos (2 ^ 31 - 1) ∷ map (λ n. n.priority -ℤ pos 1) news
 
 -- whether a number is a threshold, from 0 to the greatest i32, that succeeds
 abbrev pub succeeds_at : List Area → List New → ℕ → ℤ → Bool
-succeeds_at areas news free threshold = (int_le (pos 0) threshold && int_le threshold (pos (2 ^ 31 - 1))) && is_ok (tried areas news free threshold)
+succeeds_at areas news free threshold = (int_le (pos 0) threshold && int_le threshold (pos (2 ^ 31 - 1))) && is_ok
+    (tried areas news free threshold)
 
 -- the greatest of these that succeeds, or 0
 abbrev pub kept_threshold : List Area → List New → ℕ → ℤ

@@ -7,7 +7,8 @@ use Rattle.rp_areas.specs.Areas.{by_start}
 use Rattle.rp_areas.proofs.extents.by_start.Goals as goal
 
 pub loop-extent-preserved : goal.loop-extent-preserved
-loop-extent-preserved c = insert_more _ _ c.args.extents.now c.loop-extent.extent-index _ c.requires c.loop-extent-test.true c.loop-extent.invariant c.in_ok-insert.ensures.entries
+loop-extent-preserved c = insert_more _ _ c.args.extents.now c.loop-extent.extent-index _ c.requires c.loop-extent-test.true
+    c.loop-extent.invariant c.in_ok-insert.ensures.entries
 
 pub returns : goal.returns
 returns c =

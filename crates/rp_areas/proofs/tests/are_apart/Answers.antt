@@ -13,7 +13,8 @@ loop-place-preserved c =
     let below : c.loop-place.place < length c.args.rows.now = omega arith in
     let x : Row = get_or c.args.rows.now c.loop-place.place no_row in
     let each : All (λ (a : Row). Apart a x) (take c.loop-place.place c.args.rows.now) = search rules in
-    rw (take_more c.args.rows.now c.loop-place.place no_row below) (all_pairs_push Apart (take c.loop-place.place c.args.rows.now) x c.loop-place.invariant each)
+    rw (take_more c.args.rows.now c.loop-place.place no_row below) (all_pairs_push Apart (take c.loop-place.place c.args.rows.now) x
+    c.loop-place.invariant each)
 
 pub returns : goal.returns
 returns c = λ _.

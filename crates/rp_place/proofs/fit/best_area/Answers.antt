@@ -8,8 +8,10 @@ pub loop-place-preserved : goal.loop-place-preserved
 loop-place-preserved c =
     let below : c.loop-place.place < length c.args.areas.now = omega arith in
     elim c.if-candidate-need.branch [
-      | then-candidate-need w ↦ w.best-is ∙ best_yes c.args.areas.now c.args.rooms.now c.args.need c.loop-place.place no_area c.loop-place.best _ below w.if-candidate-need.true c.loop-place.invariant w.lesser.ensures
-      | else-candidate-need w ↦ w.best-is ∙ best_no c.args.areas.now c.args.rooms.now c.args.need c.loop-place.place no_area c.loop-place.best below w.if-candidate-need.false c.loop-place.invariant
+      | then-candidate-need w ↦ w.best-is ∙ best_yes c.args.areas.now c.args.rooms.now c.args.need c.loop-place.place no_area
+          c.loop-place.best _ below w.if-candidate-need.true c.loop-place.invariant w.lesser.ensures
+      | else-candidate-need w ↦ w.best-is ∙ best_no c.args.areas.now c.args.rooms.now c.args.need c.loop-place.place no_area
+          c.loop-place.best below w.if-candidate-need.false c.loop-place.invariant
     ]
 
 pub returns-clause-best : goal.returns-clause-best
@@ -20,11 +22,13 @@ returns-clause-best c =
 pub returns-clause-place : goal.returns-clause-place
 returns-clause-place c =
     let all : length c.args.areas.now ≤ c.loop-place.place = omega arith in
-    let e : c.loop-place.best ≡ best_of c.args.areas.now c.args.rooms.now c.args.need = c.loop-place.invariant ∙ best_all c.args.areas.now c.args.rooms.now c.args.need c.loop-place.place all in
+    let e : c.loop-place.best ≡ best_of c.args.areas.now c.args.rooms.now c.args.need = c.loop-place.invariant
+    ∙ best_all c.args.areas.now c.args.rooms.now c.args.need c.loop-place.place all in
     rw e (best_place c.args.areas.now c.args.rooms.now c.args.need)
 
 pub returns-clause-room : goal.returns-clause-room
 returns-clause-room c =
     let all : length c.args.areas.now ≤ c.loop-place.place = omega arith in
-    let e : c.loop-place.best ≡ best_of c.args.areas.now c.args.rooms.now c.args.need = c.loop-place.invariant ∙ best_all c.args.areas.now c.args.rooms.now c.args.need c.loop-place.place all in
+    let e : c.loop-place.best ≡ best_of c.args.areas.now c.args.rooms.now c.args.need = c.loop-place.invariant
+    ∙ best_all c.args.areas.now c.args.rooms.now c.args.need c.loop-place.place all in
     rw e (best_room c.args.areas.now c.args.rooms.now c.args.need)

@@ -7,7 +7,8 @@ use Rattle.rp_place.proofs.threshold.settle.Goals as goal
 pub returns-then-highest-eq0 : goal.returns-then-highest-eq0
 returns-then-highest-eq0 c =
     let zero : c.highest-highest.result ≤ℤ pos 0 = omega (arith, ints, c.if-highest-eq0.true) in
-    let refused = refused_at c.args.areas.now c.args.news.now c.args.free_slots (to_z w32 c.loop-areas.threshold-bits) c.highest-highest.result c.in-Err.fault
+    let refused = refused_at c.args.areas.now c.args.news.now c.args.free_slots (to_z w32 c.loop-areas.threshold-bits)
+    c.highest-highest.result c.in-Err.fault
     c.loop-areas.invariant.2 (sym c.in_ok-areas.ensures ∙ c.in-Err.is) c.highest-highest.ensures.same zero c.loop-areas.invariant.0 in
     inl (sym (settled_err c.args.areas.now c.args.news.now c.args.free_slots c.in-Err.fault refused))
 
@@ -15,7 +16,8 @@ pub loop-areas-preserved : goal.loop-areas-preserved
 loop-areas-preserved c = (
   omega (arith, ints),
   omega (arith, ints),
-  λ other above high. none_lower c.args.areas.now c.args.news.now c.args.free_slots (to_z w32 c.loop-areas.threshold-bits) c.highest-highest.result other c.in-Err.fault
+  λ other above high. none_lower c.args.areas.now c.args.news.now c.args.free_slots (to_z w32 c.loop-areas.threshold-bits)
+      c.highest-highest.result other c.in-Err.fault
       c.loop-areas.invariant.2 (sym c.in_ok-areas.ensures ∙ c.in-Err.is) c.highest-highest.ensures.same (omega (arith, ints, above)) high,
 )
 
