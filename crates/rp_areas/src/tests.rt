@@ -212,13 +212,6 @@ fn rows_go_to_definitions_of_their_type_in_order(rt: HostRuntime) -> Result<(), 
 fn areas_of_rows(rt: HostRuntime) -> Result<(), Fail> {
     let cases = [
         Case {
-            name: "no rows",
-            last: LAST,
-            rows: &[],
-            definitions: &[(1, 2560, 0)],
-            areas: Ok(&[free(256, 16_123)]),
-        },
-        Case {
             name: "a row up to the end doesn't grow",
             last: LAST,
             rows: &[(1, 2048, 128_991)],
@@ -231,20 +224,6 @@ fn areas_of_rows(rt: HostRuntime) -> Result<(), Fail> {
             rows: &[(1, 2048, 128_991)],
             definitions: &[(1, 2560, 0)],
             areas: Ok(&[free(256, 0), anchor(256, 32_507, 0, 16_124)]),
-        },
-        Case {
-            name: "padding is used too",
-            last: 262_110,
-            rows: &[(1, 2048, 128_991)],
-            definitions: &[(1, 20_000, 100)],
-            areas: Ok(&[free(256, 0), anchor(256, 32_507, 0, 20_100)]),
-        },
-        Case {
-            name: "an anchor without room for its minimum",
-            last: LAST,
-            rows: &[(1, 2048, 8192), (9, 10_240, 8)],
-            definitions: &[(1, 2560, 0)],
-            areas: Err(existing(0, 10_485_760, 4_194_304)),
         },
         Case {
             name: "an anchor without room for its padding",
@@ -261,25 +240,11 @@ fn areas_of_rows(rt: HostRuntime) -> Result<(), Fail> {
             areas: Ok(&[free(256, 0), free(12_757, 3622)]),
         },
         Case {
-            name: "a small row at an odd start",
-            last: LAST,
-            rows: &[(1, 2049, 8)],
-            definitions: &[(1, 2560, 0)],
-            areas: Err(existing(0, 10_485_760, 4096)),
-        },
-        Case {
             name: "a row that ends in the middle of a grain, and rows that touch",
             last: LAST,
             rows: &[(9, 4100, 100), (9, 2048, 2052)],
             definitions: &[],
             areas: Ok(&[free(256, 0), free(513, 0), free(525, 15_854)]),
-        },
-        Case {
-            name: "an anchor up to the grain of the next row",
-            last: LAST,
-            rows: &[(1, 2048, 8), (9, 2063, 9)],
-            definitions: &[(1, 1, 0)],
-            areas: Ok(&[free(256, 0), anchor(256, 1, 0, 1), free(259, 16_120)]),
         },
         Case {
             name: "a row whose last grain reaches into the next row",
@@ -294,13 +259,6 @@ fn areas_of_rows(rt: HostRuntime) -> Result<(), Fail> {
             rows: &[(1, 4097, 8), (1, 2049, 9)],
             definitions: &[(1, 2560, 0), (1, 2560, 0)],
             areas: Err(existing(0, 10_485_760, 4096)),
-        },
-        Case {
-            name: "a foreign row is in no one's way",
-            last: LAST,
-            rows: &[(9, 40_960, 20_480)],
-            definitions: &[(1, 2560, 0)],
-            areas: Ok(&[free(256, 4864), free(7680, 8699)]),
         },
     ];
     for case in &cases {

@@ -73,24 +73,6 @@ fn settles(rt: HostRuntime) -> Result<(), Fail> {
             }),
         },
         Case {
-            name: "negative numbers aren't dropped",
-            areas: &[area(256, 10, 0)],
-            news: &[new(0, 8, -5), new(1, 8, -1)],
-            free_slots: 128,
-            answer: Err(PlaceFault::Room {
-                file: 1,
-                need: 8,
-                largest: 2,
-            }),
-        },
-        Case {
-            name: "a number is dropped before a negative one",
-            areas: &[area(256, 10, 0)],
-            news: &[new(0, 8, 3), new(1, 8, -1)],
-            free_slots: 128,
-            answer: Ok((2, &[None, Some(0)])),
-        },
-        Case {
             name: "the smaller area",
             areas: &[area(256, 4864, 0), area(7680, 8699, 0)],
             news: &[new(0, 2560, 0)],
@@ -98,25 +80,11 @@ fn settles(rt: HostRuntime) -> Result<(), Fail> {
             answer: Ok((i32::MAX, &[Some(0)])),
         },
         Case {
-            name: "the smaller area, though it comes later",
-            areas: &[area(256, 100, 0), area(512, 10, 0)],
-            news: &[new(0, 10, 0)],
-            free_slots: 128,
-            answer: Ok((i32::MAX, &[Some(1)])),
-        },
-        Case {
             name: "of two as large the first on the disk",
             areas: &[area(500, 10, 0), area(100, 10, 0)],
             news: &[new(0, 5, 0)],
             free_slots: 128,
             answer: Ok((i32::MAX, &[Some(1)])),
-        },
-        Case {
-            name: "of two as large and at one grain the first of the list",
-            areas: &[area(100, 10, 0), area(100, 10, 0)],
-            news: &[new(0, 5, 0)],
-            free_slots: 128,
-            answer: Ok((i32::MAX, &[Some(0)])),
         },
         Case {
             name: "what an anchor uses isn't available",
@@ -128,24 +96,6 @@ fn settles(rt: HostRuntime) -> Result<(), Fail> {
                 need: 6,
                 largest: 5,
             }),
-        },
-        Case {
-            name: "no areas",
-            areas: &[],
-            news: &[new(4, 1, 0)],
-            free_slots: 128,
-            answer: Err(PlaceFault::Room {
-                file: 4,
-                need: 1,
-                largest: 0,
-            }),
-        },
-        Case {
-            name: "no definitions",
-            areas: &[area(256, 10, 0)],
-            news: &[],
-            free_slots: 0,
-            answer: Ok((i32::MAX, &[])),
         },
         Case {
             name: "one more than the slots",
