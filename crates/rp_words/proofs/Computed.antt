@@ -1,5 +1,5 @@
 -- Lines that were worked out by hand come out of the definition.
-use Rattle.std.proofs.Common.{◌≡◌, refl, ℕ, [], ◌∷◌, Bool, true, false, replicate}
+use Rattle.std.proofs.Common.{Some, ◌≡◌, refl, ℕ, [], ◌∷◌, Bool, true, false, replicate}
 use Rattle.std.specs.Prelude.{codes, Ok, Err}
 use Rattle.rp_types.specs.declared.arch.Arch.TheVariants.{X86_64}
 use Rattle.rp_words.specs.declared.fault.WordFault.TheVariants.{NoCommand, UnknownCommand, NotOption, UnknownOption, OtherCommand, Twice, BadValue, NoImage}
@@ -7,6 +7,7 @@ use Rattle.rp_words.specs.declared.line.Line.{Line}
 use Rattle.rp_words.specs.declared.table.Command.TheVariants.{Show}
 use Rattle.rp_words.specs.declared.table.Opt.TheVariants.{Json, SectorSize}
 use Rattle.rp_words.specs.Faults.{entry_called, first_fault, missing}
+use Rattle.rp_words.specs.Hint.{entry_of, hint_of}
 use Rattle.rp_words.specs.Line.{command_of, line_of}
 use Rattle.rp_words.specs.Table.{commands, options}
 use Rattle.rp_types.specs.Guids.{guid_of}
@@ -71,3 +72,12 @@ of_another_command = refl
 an_unknown_option : line_of (codes "show" ∷ codes "--color=x" ∷ codes "image" ∷ []) ≡ Err (UnknownOption 1)
 unfolding command_of commands first_fault missing entry_called options
 an_unknown_option = refl
+
+hint_at_a_value : hint_of (codes "show" ∷ codes "--json=long" ∷ codes "image" ∷ [])
+    ≡ Some (codes "--json=long", codes "not a value of this option, which takes", codes "off|short")
+unfolding command_of commands first_fault missing entry_called options entry_of
+hint_at_a_value = refl
+
+hint_without_an_image : hint_of (codes "show" ∷ []) ≡ Some ([], codes "no image is given, as the last word", [])
+unfolding command_of commands first_fault missing entry_called options
+hint_without_an_image = refl

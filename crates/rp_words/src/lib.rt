@@ -2,11 +2,13 @@
 #![tactic(auto)]
 
 mod fault;
+mod hint;
 mod line;
 mod table;
 mod values;
 mod words;
 
 pub use fault::WordFault;
+pub use hint::{Hint, hint_of};
 pub use line::{Line, read_line};
 pub use table::{Command, Opt};
