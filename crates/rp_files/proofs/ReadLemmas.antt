@@ -1,5 +1,5 @@
 -- What is read one file after another, and that each is there.
-use Rattle.std.proofs.Common.{◌≡◌, ℕ, zero, suc, ◌+◌, ◌<◌, ◌≤◌, List, [], ◌∷◌, Bool, true, false, Option, Some, None, Result, Ok, map, length, take, drop, get_or, refl, ap, sym, ◌∙◌, subst, arith, add-one, drop-cons}
+use Rattle.std.proofs.Common.{◌≡◌, ℕ, zero, suc, ◌+◌, ◌<◌, ◌≤◌, List, [], ◌∷◌, Bool, true, false, Option, Some, None, map, length, take, get_or, refl, ap, sym, ◌∙◌, subst, arith}
 use Rattle.std.specs.Prelude.{String, IfSome, IsSome, nat_lt}
 use Rattle.std.specs.declared.alloc.Global.{Global}
 use Rattle.std.proofs.lemmas.Bool.{ltb-false}
@@ -7,9 +7,7 @@ use Rattle.std.proofs.lemmas.List.{length-map}
 use Rattle.std.proofs.lemmas.List.Sums.{sum_by-cons}
 use Rattle.rp_io.specs.Files.{Tree, content}
 use Rattle.rp_files.specs.declared.found.Group.{Group as Kept}
-use Rattle.rp_files.specs.declared.piece.Piece.{Piece}
-use Rattle.rp_files.specs.declared.fault.LoadFault.{LoadFault}
-use Rattle.rp_files.specs.Pieces.{Found, Group, count_of, whole, with_whole, with_parts, with_group, with_groups}
+use Rattle.rp_files.specs.Pieces.{Found, Group, count_of}
 use Rattle.rp_files.specs.Found.{bytes_of, found_of, group_of, AreThere}
 
 abbrev Entry : Type 0
@@ -55,26 +53,6 @@ above n h = by_test (nat_lt 256 n) refl where
   by_test : (b : Bool) → nat_lt 256 n ≡ b → true ≡ nat_lt 256 n
   by_test true is = sym is
   by_test false is = absurd (let le = ltb-false 256 n is in omega (arith, le, h))
-
-pub pieces_more : (o p : Option Tree) (file : List ℕ) (parts : List Entry) (i : ℕ) (part : Entry) (start q r : List Piece) → p ≡ o → i < length parts → part ≡ get_or parts i part
-    → IfSome o (λ tree. with_parts tree file (Ok start) (found_of parts) ≡ with_parts tree file (Ok q) (found_of (drop i parts)))
-    → IfSome p (λ tree. with_whole q file (bytes_of part).0 (whole file (bytes_of part).0 (content tree.files (bytes_of part).1)) ≡ Ok r)
-    → IfSome o (λ tree. with_parts tree file (Ok start) (found_of parts) ≡ with_parts tree file (Ok r) (found_of (drop (i + 1) parts)))
-pieces_more None p file parts i part start q r is lt at sofar step = tt
-pieces_more (Some tree) p file parts i part start q r is lt at sofar step =
-    let now = subst (λ (o : Option Tree). IfSome o (λ t. with_whole q file (bytes_of part).0 (whole file (bytes_of part).0 (content t.files (bytes_of part).1)) ≡ Ok r)) is step in
-    let front : drop i parts ≡ part ∷ drop (i + 1) parts = rw add-one (drop-cons parts i part lt) ∙ ap (λ (e : Entry). e ∷ drop (i + 1) parts) (sym at) in
-    sofar ∙ ap (λ (es : List Entry). with_parts tree file (Ok q) (found_of es)) front ∙ ap (λ (a : Result (List Piece) LoadFault). with_parts tree file a (found_of (drop (i + 1) parts))) now
-
-pub groups_more : (o p : Option Tree) (kept : List Kept) (i : ℕ) (group : Kept) (start q r : List Piece) → p ≡ o → i < length kept → group ≡ get_or kept i group
-    → IfSome o (λ tree. with_groups tree (Ok start) (map group_of kept) ≡ with_groups tree (Ok q) (map group_of (drop i kept)))
-    → IfSome p (λ tree. with_group tree q (group_of group) ≡ Ok r)
-    → IfSome o (λ tree. with_groups tree (Ok start) (map group_of kept) ≡ with_groups tree (Ok r) (map group_of (drop (i + 1) kept)))
-groups_more None p kept i group start q r is lt at sofar step = tt
-groups_more (Some tree) p kept i group start q r is lt at sofar step =
-    let now = subst (λ (o : Option Tree). IfSome o (λ t. with_group t q (group_of group) ≡ Ok r)) is step in
-    let front : drop i kept ≡ group ∷ drop (i + 1) kept = rw add-one (drop-cons kept i group lt) ∙ ap (λ (e : Kept). e ∷ drop (i + 1) kept) (sym at) in
-    sofar ∙ ap (λ (es : List Kept). with_groups tree (Ok q) (map group_of es)) front ∙ ap (λ (a : Result (List Piece) LoadFault). with_groups tree a (map group_of (drop (i + 1) kept))) now
 
 pub strays_known : (o p : Option Tree) (G B : Tree → Type 0) (x y z : ℕ) → p ≡ o → IfSome o G → IfSome o (λ tree. y ≡ x) → IfSome p (λ tree. B tree → z ≡ y)
     → ((tree : Tree) → G tree → B tree) → IfSome o (λ tree. z ≡ x)

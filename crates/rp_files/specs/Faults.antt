@@ -1,5 +1,5 @@
 -- The causes of faults while definition files are read.
-use Rattle.std.specs.Prelude.{ℕ, List, ◌≡◌, ◌≤◌, ◌⊎◌, Result, Ok, Err, ⊤}
+use Rattle.std.specs.Prelude.{ℕ, ◌≡◌, ◌≤◌, Result, Ok, Err, ⊤}
 use Rattle.rp_base.specs.Faults.{Rose}
 use Rattle.rp_files.specs.declared.fault.LoadFault.{LoadFault}
 use Rattle.rp_files.specs.declared.fault.LoadFault.TheVariants.{FolderFault, TooMany, TooBig, Memory}
@@ -26,7 +26,3 @@ IsPassed FolderFault = ⊤
 IsPassed TooMany = ⊥
 IsPassed (TooBig file part) = ⊥
 IsPassed Memory = ⊤
-
--- the fault that names a piece, or want of memory for it
-abbrev pub IsTooBig : List ℕ → List ℕ → LoadFault → Type 0
-IsTooBig file part fault = (fault ≡ TooBig file part) ⊎ (fault ≡ Memory)

@@ -2,3 +2,4 @@ pub mod Faults
 pub mod Found
 pub mod Passed
 pub mod Pieces
+pub mod Reading

@@ -1,6 +1,7 @@
 -- Which files of the folders are definition pieces, and in which order (repart.d(5), systemd.unit(5) on drop-ins).
-use Rattle.std.specs.Prelude.{ℕ, List, [], ◌∷◌, ◌++◌, Bool, ◌&&◌, not, if◌then◌else◌, ◌==◌, nat_lt, nat_eq, Option, Some, None, Result, Ok, Err, codes, filter, flat_map, length, map, sum_by, ◌+◌, ◌≤◌, All}
+use Rattle.std.specs.Prelude.{ℕ, List, [], ◌∷◌, ◌++◌, Bool, ◌&&◌, not, if◌then◌else◌, ◌==◌, nat_lt, nat_eq, Option, Some, None, Result, Ok, Err, codes, filter, find, flat_map, length, map, sum_by, ◌+◌, ◌≤◌, All}
 use Rattle.std.specs.List.{starts_with, ends_with}
+use Rattle.std.specs.Option.{unwrap_or}
 use Rattle.std.specs.Ordering.{nat_cmp}
 use Rattle.std.specs.Cmp.Lexicographic.{slice_cmp}
 use Rattle.std.specs.FinMap.{put}
@@ -52,11 +53,6 @@ groups tree folders = map (group_at tree folders) (winners tree folders)
 abbrev pub count_of : List Group → ℕ
 count_of gs = sum_by (λ group. length group.parts + 1) gs
 
--- the bytes of a file; more than 65,536 are a fault. A file that isn't there is none of those that win
-abbrev pub whole : List ℕ → List ℕ → Option (List ℕ) → Result (List ℕ) LoadFault
-whole file part None = Ok []
-whole file part (Some bytes) = if nat_lt 65536 (length bytes) then Err (TooBig file part) else Ok bytes
-
 -- a piece of at most 65,536 bytes
 abbrev pub IsShort : Piece → Type 0
 IsShort piece = length piece.bytes ≤ 65536
@@ -66,41 +62,35 @@ pub record ArePieces (pieces : List Piece) : Type 0 where
   pub few : length pieces ≤ 256
   pub short : All IsShort pieces
 
--- at most so many pieces were added, and none that is too long
-pub record AddsAtMost (count : ℕ) (before after : List Piece) : Type 0 where
-  pub few : length after ≤ length before + count
-  pub short : All IsShort before → All IsShort after
+-- a file as a piece: the part is empty for a main file. One that isn't there has no bytes, and none of those that win is one
+abbrev pub piece_at : Tree → List ℕ → List ℕ → List ℕ → Piece
+piece_at tree file part path = record { file = file; part = part; bytes = unwrap_or (content tree.files path) [] }
 
--- the pieces with one more, unless it is empty
-abbrev pub with_piece : List Piece → List ℕ → List ℕ → List ℕ → List Piece
-with_piece so_far file part bytes = if length bytes == 0 then so_far else so_far ++ record { file = file; part = part; bytes = bytes } ∷ []
+abbrev pub part_at : Tree → List ℕ → Found → Piece
+part_at tree file part = piece_at tree file part.0 part.1
 
-abbrev pub with_whole : List Piece → List ℕ → List ℕ → Result (List ℕ) LoadFault → Result (List Piece) LoadFault
-with_whole so_far file part (Err fault) = Err fault
-with_whole so_far file part (Ok bytes) = Ok (with_piece so_far file part bytes)
+abbrev pub is_empty : Piece → Bool
+is_empty piece = length piece.bytes == 0
 
--- the pieces with those of drop-ins, or the first fault
-abbrev pub with_parts : Tree → List ℕ → Result (List Piece) LoadFault → List Found → Result (List Piece) LoadFault
-with_parts tree file (Err fault) parts = Err fault
-with_parts tree file (Ok so_far) [] = Ok so_far
-with_parts tree file (Ok so_far) (part ∷ parts) = with_parts tree file (with_whole so_far file part.0 (whole file part.0 (content tree.files part.1))) parts
+abbrev pub is_too_big : Piece → Bool
+is_too_big piece = nat_lt 65536 (length piece.bytes)
 
--- an empty main file masks its name, and its drop-ins are nothing
-abbrev pub with_main : Tree → List Piece → Group → Result (List ℕ) LoadFault → Result (List Piece) LoadFault
-with_main tree so_far group (Err fault) = Err fault
-with_main tree so_far group (Ok bytes) =
-    if length bytes == 0 then Ok so_far else with_parts tree group.main.0 (Ok (with_piece so_far group.main.0 [] bytes)) group.parts
+-- the files of a group: the main file, then its drop-ins. An empty main file masks its name, and its drop-ins are nothing
+abbrev pub files_of : Tree → Group → List Piece
+files_of tree group =
+    let main = piece_at tree group.main.0 [] group.main.1 in
+    if is_empty main then [] else main ∷ map (part_at tree group.main.0) group.parts
 
-abbrev pub with_group : Tree → List Piece → Group → Result (List Piece) LoadFault
-with_group tree so_far group = with_main tree so_far group (whole group.main.0 [] (content tree.files group.main.1))
+-- the first file that is too big, or else the files that aren't empty
+abbrev pub unless_too_big : Option Piece → List Piece → Result (List Piece) LoadFault
+unless_too_big None kept = Ok kept
+unless_too_big (Some piece) kept = Err (TooBig piece.file piece.part)
 
-abbrev pub with_groups : Tree → Result (List Piece) LoadFault → List Group → Result (List Piece) LoadFault
-with_groups tree (Err fault) gs = Err fault
-with_groups tree (Ok so_far) [] = Ok so_far
-with_groups tree (Ok so_far) (group ∷ gs) = with_groups tree (with_group tree so_far group) gs
+abbrev pub pieces_of : List Piece → Result (List Piece) LoadFault
+pieces_of files = unless_too_big (find is_too_big files) (filter (λ file. not (is_empty file)) files)
 
--- the pieces of the folders in order, or the first fault
+-- the pieces of the folders: those of each group in order, or the first fault
 abbrev pub pieces : Tree → List (List ℕ) → Result (List Piece) LoadFault
 pieces tree folders =
     let gs = groups tree folders in
-    if nat_lt 256 (count_of gs) then Err TooMany else with_groups tree (Ok []) gs
+    if nat_lt 256 (count_of gs) then Err TooMany else pieces_of (flat_map (files_of tree) gs)

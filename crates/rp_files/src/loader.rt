@@ -1,4 +1,4 @@
-ghost use Rattle.std.specs.Prelude.{◌≡◌, nat_lt, map, IfSome, IfOk};
+ghost use Rattle.std.specs.Prelude.{◌≡◌, nat_lt, not, map, is_ok, IfSome, IfOk, IfErr};
 ghost use Rattle.rp_files.specs.Pieces.{pieces, count_of, ArePieces};
 ghost use Rattle.rp_files.specs.Faults.{HasLoadCause, Loads};
 ghost use Rattle.rp_files.specs.Found.{group_of};
@@ -31,14 +31,23 @@ pub fn load<F: Folders>(
     ensures cause { HasLoadCause (F.faults folders.old) (F.faults folders.new) result }
 {
     let groups = groups(alloc, folders, dirs)?;
-    if has_too_many(groups.as_slice()) {
-        return Err(LoadFault::TooMany);
-    }
+    check_count(groups.as_slice())?;
     let mut found = List::new(alloc);
     for group in &groups {
         found = with_group(alloc, folders, found, group)?;
     }
     Ok(found)
+}
+
+// A fault where more names win than may.
+fn check_count(groups: &[Group]) -> Result<(), LoadFault>
+    ensures few { is_ok result ≡ not (nat_lt 256 (count_of (map group_of groups.now))) }
+    ensures fault { IfErr result (λ fault. fault ≡ LoadFault.TooMany) }
+{
+    if has_too_many(groups) {
+        return Err(LoadFault::TooMany);
+    }
+    Ok(())
 }
 
 // Whether more names win than may.

@@ -1,4 +1,4 @@
--- The causes of faults of folders and sources.
+-- The causes of faults of folders.
 use Rattle.std.specs.Prelude.{ℕ, ◌≡◌, ◌≤◌, Result, Ok, Err}
 use Rattle.rp_base.specs.Faults.{Rose}
 use Rattle.rp_io.specs.declared.fault.IoFault.{IoFault}
@@ -9,8 +9,3 @@ abbrev pub HasIoCause : {T : Type 0} → ℕ → ℕ → Result T IoFault → Ty
 HasIoCause before now (Ok value) = now ≡ before
 HasIoCause before now (Err Memory) = now ≡ before
 HasIoCause before now (Err Failed) = (before ≤ now) × Rose before now
-
--- the number of stray calls rises exactly at a call that reaches for what isn't there
-pub record CountsStray (there : Type 0) (before now : ℕ) : Type 0 where
-  pub inside : there → now ≡ before
-  pub past : (there → ⊥) → Rose before now

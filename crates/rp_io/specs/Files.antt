@@ -1,8 +1,9 @@
 -- Files and folders: a finite map from paths to bytes, and the folders that are there.
-use Rattle.std.specs.Prelude.{ℕ, List, [], ◌∷◌, ◌++◌, ◌≡◌, ◌+◌, ◌≤◌, Bool, true, false, ◌&&◌, not, if◌then◌else◌, ◌==◌, nat_le, ⊤, Option, Some, None, length, drop, find, fold, filter_map, option_map, slice_range}
+use Rattle.std.specs.Prelude.{ℕ, List, [], ◌∷◌, ◌++◌, ◌≡◌, ◌+◌, ◌≤◌, Bool, true, false, ◌&&◌, not, if◌then◌else◌, ◌==◌, nat_le, nat_lt, ⊤, Option, Some, None, length, drop, find, fold, filter_map, option_map}
 use Rattle.std.specs.List.{list_any}
 use Rattle.std.specs.Str.{bytes_eq}
 use Rattle.std.specs.List.Sorted.{IsPermutation}
+use Rattle.rp_base.specs.Image.{bytes_at}
 use Rattle.rp_io.specs.declared.stored.Stored.{Stored}
 use Rattle.rp_io.specs.declared.folders.Content.{Content}
 use Rattle.rp_io.specs.declared.folders.Content.TheVariants.{Whole, More}
@@ -52,12 +53,12 @@ abbrev pub IsWithin : ℕ → Content → Type 0
 IsWithin limit (Whole bytes) = length bytes ≤ limit
 IsWithin limit More = ⊤
 
--- the file is there, and a range with this end doesn't pass its end
-abbrev pub Reaches : Option (List ℕ) → ℕ → Type 0
-Reaches None end = ⊥
-Reaches (Some bytes) end = end ≤ length bytes
+-- the file isn't there, or a range with this end passes its end
+abbrev pub passes : Option (List ℕ) → ℕ → Bool
+passes None end = true
+passes (Some bytes) end = nat_lt (length bytes) end
 
 -- what was read are the bytes in this range of the file
 abbrev pub Reads : Option (List ℕ) → ℕ → ℕ → List ℕ → Type 0
 Reads None at size read = ⊥
-Reads (Some bytes) at size read = (at + size ≤ length bytes) × (read ≡ slice_range bytes at (at + size))
+Reads (Some bytes) at size read = (at + size ≤ length bytes) × (read ≡ bytes_at bytes at size)

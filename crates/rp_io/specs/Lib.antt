@@ -1,5 +1,6 @@
 pub mod Faults
 pub mod Files
+pub mod Host
 pub mod HostFolders
 pub mod HostSink
 pub mod HostSources

@@ -1,5 +1,5 @@
 -- What folders in memory are, from outside.
-use Rattle.std.specs.Prelude.{ℕ, List, ◌≡◌, ◌+◌, ◌-◌, ◌^◌, ◌⊎◌, min, Result, Ok, Err, Contains}
+use Rattle.std.specs.Prelude.{ℕ, List, Bool, true, false, ◌≡◌, ◌+◌, ◌-◌, ◌^◌, ◌⊎◌, min, Result, Ok, Err, Contains}
 use Rattle.rp_io.specs.declared.mem_folders.MemFolders.{MemFolders}
 use Rattle.rp_io.specs.declared.fault.IoFault.{IoFault}
 use Rattle.rp_io.specs.declared.fault.IoFault.TheVariants.{Failed, Memory}
@@ -26,13 +26,13 @@ abbrev pub stray_calls : MemFolders → ℕ
 stray_calls folders = folders.strays
 
 -- the answer is a failure exactly where the call is to fail or reaches for what isn't there
-abbrev pub FailsFor : {T : Type 0} → Type 0 → Type 0 → Result T IoFault → Type 0
-FailsFor chosen there (Ok value) = (chosen → ⊥) × there
-FailsFor chosen there (Err Memory) = (chosen → ⊥) × there
-FailsFor chosen there (Err Failed) = chosen ⊎ (there → ⊥)
+abbrev pub FailsFor : {T : Type 0} → Type 0 → Bool → Result T IoFault → Type 0
+FailsFor chosen stray (Ok value) = (chosen → ⊥) × (stray ≡ false)
+FailsFor chosen stray (Err Memory) = (chosen → ⊥) × (stray ≡ false)
+FailsFor chosen stray (Err Failed) = chosen ⊎ (stray ≡ true)
 
 -- a call fails exactly where its number is listed and where it reaches for what isn't there
-pub record FailsExactly {T : Type 0} (old new : MemFolders) (there : Type 0) (result : Result T IoFault) : Type 0 where
+pub record FailsExactly {T : Type 0} (old new : MemFolders) (stray : Bool) (result : Result T IoFault) : Type 0 where
   pub number : made new ≡ min (made old + 1) (2 ^ 64 - 1)
   pub same : listed new ≡ listed old
-  pub answer : FailsFor (Contains (listed old) (made new)) there result
+  pub answer : FailsFor (Contains (listed old) (made new)) stray result

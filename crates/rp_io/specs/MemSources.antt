@@ -1,5 +1,5 @@
 -- What sources in memory are, from outside.
-use Rattle.std.specs.Prelude.{ℕ, List, ◌≡◌, ◌+◌, ◌-◌, ◌^◌, ◌⊎◌, min, Result, OnOk, OnErr, Contains}
+use Rattle.std.specs.Prelude.{ℕ, List, Bool, true, false, ◌≡◌, ◌+◌, ◌-◌, ◌^◌, ◌⊎◌, min, Result, OnOk, OnErr, Contains}
 use Rattle.rp_io.specs.declared.mem_sources.MemSources.{MemSources}
 use Rattle.rp_io.specs.declared.stored.Stored.{Stored}
 
@@ -24,8 +24,8 @@ abbrev pub stray_calls : MemSources → ℕ
 stray_calls sources = sources.strays
 
 -- a call fails exactly where its number is listed and where it reaches for what isn't there
-pub record FailsExactly {T E : Type 0} (old new : MemSources) (there : Type 0) (result : Result T E) : Type 0 where
+pub record FailsExactly {T E : Type 0} (old new : MemSources) (stray : Bool) (result : Result T E) : Type 0 where
   pub number : made new ≡ min (made old + 1) (2 ^ 64 - 1)
   pub same : listed new ≡ listed old
-  pub ok : OnOk result ((Contains (listed old) (made new) → ⊥) × there)
-  pub err : OnErr result (Contains (listed old) (made new) ⊎ (there → ⊥))
+  pub ok : OnOk result ((Contains (listed old) (made new) → ⊥) × (stray ≡ false))
+  pub err : OnErr result (Contains (listed old) (made new) ⊎ (stray ≡ true))

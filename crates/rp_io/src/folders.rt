@@ -1,5 +1,6 @@
-ghost use Rattle.std.specs.Prelude.{◌≡◌, ℕ, Option, Some, IfSome, IfOk, IsSome, option_map};
-ghost use Rattle.rp_io.specs.Faults.{HasIoCause, CountsStray};
+ghost use Rattle.std.specs.Prelude.{◌≡◌, ℕ, Option, Some, IfSome, IfOk, is_none, option_map};
+ghost use Rattle.rp_base.specs.Faults.{CountsStray};
+ghost use Rattle.rp_io.specs.Faults.{HasIoCause};
 ghost use Rattle.rp_io.specs.Files.{Tree, IsListing, IsWithin, content, limited};
 
 use crate::IoFault;
@@ -43,6 +44,6 @@ pub trait Folders {
         ensures told { told self.new ≡ told self.old }
         ensures bytes { IfSome (told self.old) (λ tree. IfOk result (λ held. option_map (limited limit) (content tree.files path.now) ≡ Some held)) }
         ensures within { IfOk result (IsWithin limit) }
-        ensures strays { IfSome (told self.old) (λ tree. CountsStray (IsSome (content tree.files path.now)) (strays self.old) (strays self.new)) }
+        ensures strays { IfSome (told self.old) (λ tree. CountsStray (is_none (content tree.files path.now)) (strays self.old) (strays self.new)) }
         ensures cause { HasIoCause (faults self.old) (faults self.new) result };
 }

@@ -1,10 +1,13 @@
-ghost use Rattle.std.specs.Prelude.{◌≡◌, None, IfOk};
+ghost use Rattle.std.specs.Prelude.{◌≡◌, ◌++◌, ◌+◌, ◌^◌, ◌<◌, None, IfOk, IfSome, map, string_bytes};
 ghost use Rattle.rp_io.specs.Faults.{HasIoCause};
-ghost use Rattle.rp_io.specs.Files.{IsWithin};
+ghost use Rattle.rp_io.specs.Files.{IsWithin, limited};
+ghost use Rattle.rp_io.specs.Host as host;
+ghost use Rattle.rp_io.specs.HostFolders.{Adds};
 
+use crate::answers::{check_count, is_entry, is_listed, is_readable, listing_text, opened};
 use crate::{Content, Folders, IoFault};
 use rp_base::{List, Memory, Text};
-use std::alloc::Global;
+use std::alloc::{AllocError, Global};
 use std::fs::File;
 use std::io;
 use std::io::{ErrorKind, Read};
@@ -12,18 +15,19 @@ use std::rt::Files;
 
 /// Folders of the host. They tell nothing.
 ///
-/// A file is whatever isn't a folder, through symbolic links; a link to nothing is no file. A name that isn't UTF-8 and
-/// a folder of more than 65,536 names are faults.
+/// A file is whatever isn't a folder, through symbolic links; a link to nothing is no file. Faults are a name that isn't
+/// UTF-8, a folder of more than 65,536 names, and the read of a pipe or a socket, which may wait for another process. A
+/// folder of drop-ins (its path ends in `.conf.d`) with a longer name than the host allows isn't there.
 #[derive(Drop)]
 pub struct HostFolders<'a, R: Files> {
     rt: &'a R,
     faults: u64,
 }
 
-/// How many names a folder may have, those of its subfolders too.
-const MOST_NAMES: usize = 65_536;
+/// Reads of a listing: each but the last gives a name, two of them may be `.` and `..`.
+const MOST_READS: usize = 65_536 + 3;
 
-/// Bytes of names that are read at once.
+/// Room for the names of one read. The host refuses a read without room for the next name.
 const LISTING_BYTES: usize = 4096;
 
 impl<'a, R: Files> HostFolders<'a, R> {
@@ -70,163 +74,113 @@ fn counted<T>(faults: &mut u64, answer: Result<T, IoFault>) -> Result<T, IoFault
     answer
 }
 
-fn fault_of(error: io::Error) -> IoFault {
-    if error.kind() == ErrorKind::OutOfMemory {
-        IoFault::Memory
-    } else {
-        IoFault::Failed
-    }
-}
-
 fn list_folder<R: Files>(rt: &R, alloc: Global, dir: &str) -> Result<Option<List<Text>>, IoFault> {
     let folder = joined(alloc, dir, "/")?;
-    let mut names = match rt.open_dir(folder.as_str()) {
-        Ok(names) => names,
-        Err(error) if error.kind() == ErrorKind::NotFound => return Ok(None),
-        Err(error) => return Err(fault_of(error)),
+    let Some(mut names) = opened(dir, rt.open_dir(folder.as_str()))? else {
+        return Ok(None);
     };
-    let mut files = List::new(alloc);
-    let mut seen = 0;
-    let mut buf = [0; LISTING_BYTES];
-    // Each read but the last gives a name, two of them may be "." and "..".
-    for _ in 0..MOST_NAMES + 3 {
-        let count = names.read(&mut buf).map_err(fault_of)?;
-        if count == 0 {
-            return Ok(Some(files));
+    let listing = read_listing(alloc, &mut names)?;
+    let names = names_in(alloc, &listing)?;
+    Ok(Some(files_among(rt, alloc, folder.as_str(), names.as_slice())?))
+}
+
+// All that is left of a folder's names.
+fn read_listing<D: Read>(alloc: Global, folder: &mut D) -> Result<Vec<u8>, IoFault>
+    ensures { IfOk result (λ listing. IfSome (D.remaining folder.old) (λ left. listing.items ≡ left)) }
+{
+    let mut listing = Vec::new(alloc);
+    for _ in 0..MOST_READS {
+        if read_more(folder, &mut listing)? {
+            return Ok(listing);
         }
-        seen = add_files(rt, alloc, folder.as_str(), &buf[..count], seen, &mut files)?;
     }
     Err(IoFault::Failed)
 }
 
-// Adds those of the names, each ended by a NUL, that are files. Gives how many names were seen so far.
-fn add_files<R: Files>(
+// Appends what one read gives, and says whether it found the end. An interrupted read gives nothing.
+fn read_more<D: Read>(folder: &mut D, listing: &mut Vec<u8>) -> Result<bool, IoFault>
+    ensures { IfOk result (λ is_end. Adds (D.remaining folder.old) (D.remaining folder.new) listing.old.items listing.new.items is_end) }
+{
+    let mut buf = [0; LISTING_BYTES];
+    match folder.read(&mut buf) {
+        Ok(0) => Ok(true),
+        Ok(count) => {
+            listing.extend_from_slice(&buf[..count])?;
+            Ok(false)
+        }
+        Err(error) if error.kind() == ErrorKind::Interrupted => Ok(false),
+        Err(error) => Err(error.into()),
+    }
+}
+
+// The names in a listing, `.` and `..` left out.
+fn names_in(alloc: Global, listing: &[u8]) -> Result<Vec<&str>, IoFault>
+    ensures { IfOk result (λ names. map (λ name. name.now) names.items ≡ host.entries listing.now) }
+{
+    let names = entries(alloc, listing_text(listing)?)?;
+    check_count(names.len())?;
+    Ok(names)
+}
+
+fn entries(alloc: Global, listing: &str) -> Result<Vec<&str>, AllocError>
+    ensures { IfOk result (λ names. map (λ name. name.now) names.items ≡ host.entries listing.now) }
+{
+    listing
+        .split('\0')
+        .filter(|name| is_entry(name))
+        .collect(alloc)
+}
+
+// Those of a folder's names that are files. The folder's path ends in a slash.
+fn files_among<R: Files>(
     rt: &R,
     alloc: Global,
     folder: &str,
-    names: &[u8],
-    seen: usize,
-    files: &mut List<Text>,
-) -> Result<usize, IoFault> {
-    let mut seen = seen;
-    for name in names.split(|byte| *byte == 0) {
-        if name.is_empty() || name == b".".as_slice() || name == b"..".as_slice() {
-            continue;
-        }
-        if seen >= MOST_NAMES {
-            return Err(IoFault::Failed);
-        }
-        seen += 1;
-        let Ok(name) = std::str::from_utf8(name) else {
-            return Err(IoFault::Failed);
-        };
-        if is_file(rt, joined(alloc, folder, name)?.as_str())? {
+    names: &[&str],
+) -> Result<List<Text>, IoFault> {
+    let mut files = List::new(alloc);
+    for name in names {
+        if is_listed(rt.metadata(joined(alloc, folder, name)?.as_str()))? {
             files.push(Text::from_str(alloc, name)?)?;
         }
     }
-    Ok(seen)
+    Ok(files)
 }
 
-fn is_file<R: Files>(rt: &R, path: &str) -> Result<bool, IoFault> {
-    match rt.metadata(path) {
-        Ok(metadata) => Ok(!metadata.is_dir()),
-        Err(error) if error.kind() == ErrorKind::NotFound => Ok(false),
-        Err(error) => Err(fault_of(error)),
-    }
-}
-
-fn joined(alloc: Global, front: &str, back: &str) -> Result<String, Memory> {
+fn joined(alloc: Global, front: &str, back: &str) -> Result<String, Memory>
+    ensures { IfOk result (λ text. string_bytes text ≡ front.now ++ back.now) }
+{
     let mut text = String::from_str(alloc, front)?;
     text.push_str(back)?;
     Ok(text)
 }
 
-// Reads no more than one byte past the limit.
 fn read_file<R: Files>(rt: &R, alloc: Global, path: &str, limit: u64) -> Result<Content, IoFault>
     ensures { IfOk result (IsWithin limit) }
 {
-    let file = File::open(rt, path).map_err(fault_of)?;
-    let mut bytes = Vec::new(alloc);
-    file.take(limit.saturating_add(1))
-        .read_to_end(&mut bytes)
-        .map_err(fault_of)?;
-    if bytes.len() as u64 > limit {
-        return Ok(Content::More);
+    if !is_readable(rt.metadata(path))? {
+        return Err(IoFault::Failed);
     }
-    Ok(Content::Whole(List::from_vec(bytes)))
+    read_limited(alloc, File::open(rt, path)?, limit)
 }
 
-#[cfg(test)]
-mod tests {
-    use super::*;
-    use crate::{HostSources, Sources};
-    use rp_base::Failed;
-    use std::process::Abort;
-    use std::test::Fail;
-    use std::{env, fs, process};
+// The bytes that are left of a file. It reads no more than one byte past the limit.
+fn read_limited<F: Read + Drop>(alloc: Global, file: F, limit: u64) -> Result<Content, IoFault>
+    ensures within { IfOk result (IsWithin limit) }
+    ensures bytes { limit + 1 < 2 ^ 64 → IfSome (F.remaining file) (λ left. IfOk result (λ held. held ≡ limited limit left)) }
+{
+    let mut bytes = Vec::new(alloc);
+    file.take(limit.saturating_add(1)).read_to_end(&mut bytes)?;
+    Ok(held(limit, bytes))
+}
 
-    fn has_name(names: &List<Text>, name: &str) -> bool {
-        names.as_slice().iter().any(|each| each.as_str() == name)
+// The bytes, if they are no more than the limit.
+fn held(limit: u64, bytes: Vec<u8>) -> Content
+    ensures within { IsWithin limit result }
+    ensures held { result ≡ limited limit bytes.items }
+{
+    if bytes.len() as u64 > limit {
+        return Content::More;
     }
-
-    fn check_folders<R: Files + AllocGlobal + Abort>(
-        rt: &R,
-        folder: &str,
-        file: &str,
-        inner: &str,
-    ) -> Result<(), Fail> {
-        let mut folders = HostFolders::new(rt);
-        let names = folders.list(rt.alloc(), folder)?;
-        let names = names.ok_or("the folder is there")?;
-        assert_eq!(rt; names.len(), 1);
-        assert!(rt; has_name(&names, "a name.conf"));
-        assert!(rt; folders.list(rt.alloc(), inner)?.ok_or("empty")?.len() == 0);
-        match folders.read(rt.alloc(), file, 5)? {
-            Content::Whole(bytes) => assert_eq!(rt; bytes.as_slice(), b"hello".as_slice()),
-            Content::More => assert!(rt; false),
-        }
-        assert!(rt; matches!(folders.read(rt.alloc(), file, 4)?, Content::More));
-        assert_eq!(rt; folders.faults(), 0);
-        assert!(rt; matches!(folders.list(rt.alloc(), file), Err(IoFault::Failed)));
-        assert!(rt; matches!(folders.read(rt.alloc(), folder, 5), Err(IoFault::Failed)));
-        assert_eq!(rt; folders.faults(), 2);
-        Ok(())
-    }
-
-    fn check_sources<R: Files + AllocGlobal + Abort>(
-        rt: &R,
-        folder: &str,
-        file: &str,
-    ) -> Result<(), Fail> {
-        let mut sources = HostSources::new(rt);
-        assert_eq!(rt; sources.len(file)?, 5);
-        let mut buf = [0; 3];
-        sources.read(file, 2, &mut buf)?;
-        assert_eq!(rt; buf.as_slice(), b"llo".as_slice());
-        assert_eq!(rt; sources.faults(), 0);
-        assert_eq!(rt; sources.read(file, 3, &mut buf), Err(Failed));
-        assert_eq!(rt; sources.len(folder), Err(Failed));
-        assert_eq!(rt; sources.faults(), 2);
-        Ok(())
-    }
-
-    #[test]
-    fn reads_real_files(rt: HostRuntime) -> Result<(), Fail> {
-        let top = env::temp_dir(&rt)?;
-        let top = top.as_path().to_str().ok_or("text")?;
-        let folder = format!(in rt.alloc(); "{top}/rp_io-{}", process::id(rt.process()))?;
-        let file = format!(in rt.alloc(); "{}/a name.conf", folder.as_str())?;
-        let inner = format!(in rt.alloc(); "{}/inner", folder.as_str())?;
-        fs::create_dir(&rt, folder.as_str())?;
-        fs::create_dir(&rt, inner.as_str())?;
-        fs::write(&rt, file.as_str(), b"hello")?;
-        check_folders(&rt, folder.as_str(), file.as_str(), inner.as_str())?;
-        check_sources(&rt, folder.as_str(), file.as_str())?;
-        fs::remove_dir_all(&rt, folder.as_str())?;
-        let mut folders = HostFolders::new(&rt);
-        assert!(rt; folders.list(rt.alloc(), folder.as_str())?.is_none());
-        assert!(rt; folders.read(rt.alloc(), file.as_str(), 5).is_err());
-        assert_eq!(rt; folders.faults(), 1);
-        Ok(())
-    }
+    Content::Whole(List::from_vec(bytes))
 }

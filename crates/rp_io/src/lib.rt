@@ -4,7 +4,10 @@
 //! are told to. The host forms tell nothing and count their faults.
 #![tactic(auto)]
 
+mod answers;
 mod calls;
+#[cfg(test)]
+mod fake;
 mod fault;
 mod folders;
 mod host_folders;
@@ -16,6 +19,8 @@ mod mem_sources;
 mod sink;
 mod sources;
 mod stored;
+#[cfg(test)]
+mod tests;
 
 pub use fault::IoFault;
 pub use folders::{Content, Folders};

@@ -1,5 +1,6 @@
-ghost use Rattle.std.specs.Prelude.{◌≡◌, ⊤, Some, IfOk, IsSome, option_map};
-ghost use Rattle.rp_io.specs.Faults.{HasIoCause, CountsStray};
+ghost use Rattle.std.specs.Prelude.{◌≡◌, false, Some, IfOk, is_none, option_map};
+ghost use Rattle.rp_base.specs.Faults.{CountsStray};
+ghost use Rattle.rp_io.specs.Faults.{HasIoCause};
 ghost use Rattle.rp_io.specs.Files.{Tree, IsListing, IsWithin, content, limited};
 
 use crate::calls::is_listed;
@@ -60,7 +61,7 @@ impl Folders for MemFolders {
         ensures names { IfOk result (IsListing (tree self.old) dir.now) }
         ensures strays { stray_calls self.new ≡ stray_calls self.old }
         ensures cause { HasIoCause (failures self.old) (failures self.new) result }
-        ensures exact { FailsExactly self.old self.new ⊤ result }
+        ensures exact { FailsExactly self.old self.new false result }
     {
         if is_listed(&mut self.made, &self.fail) {
             self.faults = self.faults.saturating_add(1);
@@ -77,9 +78,9 @@ impl Folders for MemFolders {
         ensures told { tree self.new ≡ tree self.old }
         ensures bytes { IfOk result (λ held. option_map (limited limit) (content (tree self.old).files path.now) ≡ Some held) }
         ensures within { IfOk result (IsWithin limit) }
-        ensures strays { CountsStray (IsSome (content (tree self.old).files path.now)) (stray_calls self.old) (stray_calls self.new) }
+        ensures strays { CountsStray (is_none (content (tree self.old).files path.now)) (stray_calls self.old) (stray_calls self.new) }
         ensures cause { HasIoCause (failures self.old) (failures self.new) result }
-        ensures exact { FailsExactly self.old self.new (IsSome (content (tree self.old).files path.now)) result }
+        ensures exact { FailsExactly self.old self.new (is_none (content (tree self.old).files path.now)) result }
     {
         let listed = is_listed(&mut self.made, &self.fail);
         let Some(bytes) = bytes_at(self.files.as_slice(), path) else {

@@ -1,7 +1,6 @@
-ghost use Rattle.std.specs.Prelude.{◌≡◌, ◌+◌, Some, IfOk, IfSome, IfNone, OnOk, IsSome, length, option_map};
-ghost use Rattle.rp_base.specs.Faults.{HasCause};
-ghost use Rattle.rp_io.specs.Faults.{CountsStray};
-ghost use Rattle.rp_io.specs.Files.{content, Reaches, Reads};
+ghost use Rattle.std.specs.Prelude.{◌≡◌, ◌+◌, Some, IfOk, IfSome, IfNone, OnOk, is_none, true, length, option_map};
+ghost use Rattle.rp_base.specs.Faults.{HasCause, CountsStray};
+ghost use Rattle.rp_io.specs.Files.{content, passes, Reads};
 
 use crate::calls::is_listed;
 use crate::stored::bytes_at;
@@ -56,9 +55,9 @@ impl Sources for MemSources {
     fn len(&mut self, path: &str) -> Result<u64, Failed>
         ensures told { files_of self.new ≡ files_of self.old }
         ensures len { IfOk result (λ len. option_map length (content (files_of self.old) path.now) ≡ Some len) }
-        ensures strays { CountsStray (IsSome (content (files_of self.old) path.now)) (stray_calls self.old) (stray_calls self.new) }
+        ensures strays { CountsStray (is_none (content (files_of self.old) path.now)) (stray_calls self.old) (stray_calls self.new) }
         ensures cause { HasCause (failures self.old) (failures self.new) result }
-        ensures exact { FailsExactly self.old self.new (IsSome (content (files_of self.old) path.now)) result }
+        ensures exact { FailsExactly self.old self.new (is_none (content (files_of self.old) path.now)) result }
     {
         let listed = is_listed(&mut self.made, &self.fail);
         let Some(bytes) = bytes_at(self.files.as_slice(), path) else {
@@ -76,9 +75,9 @@ impl Sources for MemSources {
     fn read(&mut self, path: &str, at: u64, buf: &mut [u8]) -> Result<(), Failed>
         ensures told { files_of self.new ≡ files_of self.old }
         ensures bytes { OnOk result (Reads (content (files_of self.old) path.now) at (length buf.old) buf.new) }
-        ensures strays { CountsStray (Reaches (content (files_of self.old) path.now) (at + length buf.old)) (stray_calls self.old) (stray_calls self.new) }
+        ensures strays { CountsStray (passes (content (files_of self.old) path.now) (at + length buf.old)) (stray_calls self.old) (stray_calls self.new) }
         ensures cause { HasCause (failures self.old) (failures self.new) result }
-        ensures exact { FailsExactly self.old self.new (Reaches (content (files_of self.old) path.now) (at + length buf.old)) result }
+        ensures exact { FailsExactly self.old self.new (passes (content (files_of self.old) path.now) (at + length buf.old)) result }
     {
         let listed = is_listed(&mut self.made, &self.fail);
         let Some(range) = range_at(self.files.as_slice(), path, at, buf.len()) else {
@@ -98,7 +97,7 @@ impl Sources for MemSources {
 // The bytes of a file in a range, if the file is there and has the range.
 fn range_at<'a>(files: &'a [Stored], path: &str, at: u64, size: usize) -> Option<&'a [u8]>
     ensures found { IfSome result (λ range. Reads (content files.now path.now) at size range.now) }
-    ensures missing { IfNone result (Reaches (content files.now path.now) (at + size) → ⊥) }
+    ensures missing { IfNone result (passes (content files.now path.now) (at + size) ≡ true) }
     ensures size { IfSome result (λ range. length range.now ≡ size) }
 {
     let bytes = bytes_at(files, path)?;
