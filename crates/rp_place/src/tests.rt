@@ -1,20 +1,11 @@
 ghost use Rattle.std.specs.Prelude.{◌≤◌, All, IsTrue};
 ghost use Rattle.rp_areas.specs.declared.gaps.Area.{Area};
 
-use crate::{New, PlaceFault, Placed, place, settle};
+use crate::{New, PlaceFault, place, settle};
 use rp_areas::Area;
 use std::alloc::Global;
+use std::process::Abort;
 use std::test::Fail;
-
-// What is wanted: the threshold and the places, or the fault.
-#[derive(Clone, Copy)]
-struct Case<'a> {
-    name: &'a str,
-    areas: &'a [Area],
-    news: &'a [New],
-    free_slots: u16,
-    answer: Result<(i32, &'a [Option<u16>]), PlaceFault>,
-}
 
 const fn area(from: u64, span: u64, used: u64) -> Area {
     Area {
@@ -44,99 +35,123 @@ fn are_used_within(areas: &[Area]) -> bool
     true
 }
 
-fn settled(alloc: Global, case: &Case) -> Result<Result<Placed, PlaceFault>, Fail> {
-    if case.areas.len() > 65535 || !are_used_within(case.areas) {
-        return Err("areas")?;
+/// Settles, and finds this threshold and these places.
+fn expect_places(
+    rt: &impl Abort,
+    alloc: Global,
+    areas: &[Area],
+    news: &[New],
+    free_slots: u16,
+    threshold: i32,
+    places: &[Option<u16>],
+) {
+    assert!(rt; areas.len() <= 65535 && are_used_within(areas));
+    match settle(alloc, areas, news, free_slots) {
+        Ok(placed) => {
+            assert_eq!(rt; placed.threshold, threshold);
+            assert_eq!(rt; placed.areas.as_slice(), places);
+        }
+        Err(fault) => assert!(rt; false, "{fault:?}"),
     }
-    Ok(settle(alloc, case.areas, case.news, case.free_slots))
+}
+
+/// Settles, and finds this fault.
+fn expect_fault(
+    rt: &impl Abort,
+    alloc: Global,
+    areas: &[Area],
+    news: &[New],
+    free_slots: u16,
+    wanted: PlaceFault,
+) {
+    assert!(rt; areas.len() <= 65535 && are_used_within(areas));
+    match settle(alloc, areas, news, free_slots) {
+        Ok(placed) => assert!(rt; false, "{}", placed.threshold),
+        Err(fault) => assert_eq!(rt; fault, wanted),
+    }
 }
 
 #[test]
-fn settles(rt: HostRuntime) -> Result<(), Fail> {
-    let cases = [
-        Case {
-            name: "the one of the highest number is dropped",
-            areas: &[area(256, 7931, 0)],
-            news: &[new(0, 4096, 0), new(1, 4096, 10)],
-            free_slots: 128,
-            answer: Ok((9, &[Some(0), None])),
+fn settles(rt: HostRuntime) {
+    let alloc = rt.alloc();
+    let room = [area(256, 7931, 0)];
+    let two = [area(256, 4864, 0), area(7680, 8699, 0)];
+    let same = [area(500, 10, 0), area(100, 10, 0)];
+    let used = [area(256, 100, 95)];
+
+    // the highest number is dropped, and one of 0 isn't
+    expect_places(
+        &rt,
+        alloc,
+        &room,
+        &[new(0, 4096, 0), new(1, 4096, 10)],
+        128,
+        9,
+        &[Some(0), None],
+    );
+    expect_fault(
+        &rt,
+        alloc,
+        &room,
+        &[new(0, 4096, 0), new(1, 4096, 0)],
+        128,
+        PlaceFault::Room {
+            file: 1,
+            need: 4096,
+            largest: 3835,
         },
-        Case {
-            name: "those of number 0 aren't dropped",
-            areas: &[area(256, 7931, 0)],
-            news: &[new(0, 4096, 0), new(1, 4096, 0)],
-            free_slots: 128,
-            answer: Err(PlaceFault::Room {
-                file: 1,
-                need: 4096,
-                largest: 3835,
-            }),
+    );
+
+    // the smaller area, of two as large the first on the disk, less what is used and was placed
+    expect_places(
+        &rt,
+        alloc,
+        &two,
+        &[new(0, 2560, 0)],
+        128,
+        i32::MAX,
+        &[Some(0)],
+    );
+    expect_places(
+        &rt,
+        alloc,
+        &same,
+        &[new(0, 6, 0), new(1, 5, 0)],
+        128,
+        i32::MAX,
+        &[Some(1), Some(0)],
+    );
+    expect_fault(
+        &rt,
+        alloc,
+        &used,
+        &[new(0, 6, 0)],
+        128,
+        PlaceFault::Room {
+            file: 0,
+            need: 6,
+            largest: 5,
         },
-        Case {
-            name: "the smaller area",
-            areas: &[area(256, 4864, 0), area(7680, 8699, 0)],
-            news: &[new(0, 2560, 0)],
-            free_slots: 128,
-            answer: Ok((i32::MAX, &[Some(0)])),
-        },
-        Case {
-            name: "of two as large the first on the disk",
-            areas: &[area(500, 10, 0), area(100, 10, 0)],
-            news: &[new(0, 5, 0)],
-            free_slots: 128,
-            answer: Ok((i32::MAX, &[Some(1)])),
-        },
-        Case {
-            name: "what an anchor uses isn't available",
-            areas: &[area(256, 100, 95)],
-            news: &[new(0, 6, 0)],
-            free_slots: 128,
-            answer: Err(PlaceFault::Room {
-                file: 0,
-                need: 6,
-                largest: 5,
-            }),
-        },
-        Case {
-            name: "one more than the slots",
-            areas: &[area(256, 10, 0)],
-            news: &[new(0, 2, 0), new(1, 2, 0)],
-            free_slots: 1,
-            answer: Err(PlaceFault::Slot { file: 1 }),
-        },
-        Case {
-            name: "a number is dropped for want of a slot",
-            areas: &[area(256, 10, 0)],
-            news: &[new(0, 1, 0), new(1, 1, 7), new(2, 1, 3)],
-            free_slots: 2,
-            answer: Ok((6, &[Some(0), None, Some(0)])),
-        },
-        Case {
-            name: "the highest number of all",
-            areas: &[area(256, 10, 0)],
-            news: &[new(0, 20, 2_147_483_647)],
-            free_slots: 128,
-            answer: Ok((2_147_483_646, &[None])),
-        },
-        Case {
-            name: "what was placed isn't available",
-            areas: &[area(256, 10, 0), area(512, 12, 0)],
-            news: &[new(0, 6, 0), new(1, 10, 0), new(2, 4, 0)],
-            free_slots: 128,
-            answer: Ok((i32::MAX, &[Some(0), Some(1), Some(0)])),
-        },
-    ];
-    for case in &cases {
-        match (settled(rt.alloc(), case)?, case.answer) {
-            (Ok(placed), Ok((threshold, places))) => {
-                assert_eq!(rt; placed.threshold, threshold, "{}", case.name);
-                assert_eq!(rt; placed.areas.as_slice(), places, "{}", case.name);
-            }
-            (Err(found), Err(wanted)) => assert_eq!(rt; found, wanted, "{}", case.name),
-            _ => assert!(rt; false, "{}", case.name),
-        }
-    }
-    Ok(())
+    );
+
+    // the slots that are free
+    expect_fault(
+        &rt,
+        alloc,
+        &same,
+        &[new(0, 2, 0), new(1, 2, 0)],
+        1,
+        PlaceFault::Slot { file: 1 },
+    );
+    expect_places(
+        &rt,
+        alloc,
+        &same,
+        &[new(0, 1, 0), new(1, 1, 7), new(2, 1, 3)],
+        2,
+        6,
+        &[Some(1), None, Some(1)],
+    );
 }
 
 #[test]
