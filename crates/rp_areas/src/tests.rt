@@ -6,6 +6,7 @@ ghost use Rattle.rp_base.specs.Wants.{AreWants, IsWant};
 use crate::{Area, AreaFault, areas, assign};
 use rp_base::{Guid, List, Row, Table, Want};
 use std::alloc::Global;
+use std::process::Abort;
 use std::test::Fail;
 
 const FIRST: u64 = 2048;
@@ -13,15 +14,8 @@ const FIRST: u64 = 2048;
 // A 64 MiB image's last usable unit.
 const LAST: u64 = 131_038;
 
-// Rows as type, first unit and units; definitions as type, minimum and minimum padding in grains.
-#[derive(Clone, Copy)]
-struct Case<'a> {
-    name: &'a str,
-    last: u64,
-    rows: &'a [(u8, u64, u64)],
-    definitions: &'a [(u8, u64, u64)],
-    areas: Result<&'a [Area], AreaFault>,
-}
+// A row's type, first unit and units, or a definition's type, minimum and minimum padding in grains.
+type Line = (u8, u64, u64);
 
 const fn free(from: u64, span: u64) -> Area {
     Area {
@@ -49,7 +43,7 @@ fn kind(byte: u8) -> Guid {
     Guid([byte; 16])
 }
 
-fn table(alloc: Global, last: u64, rows: &[(u8, u64, u64)]) -> Result<Table, Fail>
+fn table(alloc: Global, last: u64, rows: &[Line]) -> Result<Table, Fail>
     ensures { IfOk result (λ table. table.last ≡ last) }
 {
     let mut list = List::new(alloc);
@@ -132,7 +126,7 @@ fn is_laid_out(table: &Table) -> bool
 }
 
 // The wants of the definitions, if they are in their bounds.
-fn wants(alloc: Global, definitions: &[(u8, u64, u64)]) -> Result<Option<Vec<Want>>, Fail>
+fn wants(alloc: Global, definitions: &[Line]) -> Result<Option<Vec<Want>>, Fail>
     ensures { IfOk result (λ wants. IfSome wants (λ w. (length w.items ≡ length definitions.now) × AreWants w.items)) }
 {
     let mut wants = Vec::new(alloc);
@@ -155,7 +149,7 @@ fn wants(alloc: Global, definitions: &[(u8, u64, u64)]) -> Result<Option<Vec<Wan
     Ok(Some(wants))
 }
 
-fn kinds(alloc: Global, definitions: &[(u8, u64, u64)]) -> Result<Vec<Guid>, Fail>
+fn kinds(alloc: Global, definitions: &[Line]) -> Result<Vec<Guid>, Fail>
     ensures { IfOk result (λ kinds. length kinds.items ≡ length definitions.now) }
 {
     let mut kinds = Vec::new(alloc);
@@ -165,15 +159,51 @@ fn kinds(alloc: Global, definitions: &[(u8, u64, u64)]) -> Result<Vec<Guid>, Fai
     Ok(kinds)
 }
 
-fn areas_of(alloc: Global, case: &Case) -> Result<Result<List<Area>, AreaFault>, Fail> {
-    let table = table(alloc, case.last, case.rows)?;
-    let kinds = kinds(alloc, case.definitions)?;
-    let wants = wants(alloc, case.definitions)?.ok_or("wants")?;
-    if table.rows.len() > 65535 || !is_laid_out(&table) || case.last >= 1 << 35 {
+fn areas_of(
+    alloc: Global,
+    last: u64,
+    rows: &[Line],
+    definitions: &[Line],
+) -> Result<Result<List<Area>, AreaFault>, Fail> {
+    let table = table(alloc, last, rows)?;
+    let kinds = kinds(alloc, definitions)?;
+    let wants = wants(alloc, definitions)?.ok_or("wants")?;
+    if table.rows.len() > 65535 || !is_laid_out(&table) || last >= 1 << 35 {
         return Err("rows")?;
     }
     let matched = assign(alloc, &table, &kinds)?;
-    Ok(areas(alloc, &table, case.last, matched.as_slice(), &wants))
+    Ok(areas(alloc, &table, last, matched.as_slice(), &wants))
+}
+
+// Finds these areas.
+fn expect_areas(
+    rt: &impl Abort,
+    alloc: Global,
+    last: u64,
+    rows: &[Line],
+    definitions: &[Line],
+    wanted: &[Area],
+) -> Result<(), Fail> {
+    match areas_of(alloc, last, rows, definitions)? {
+        Ok(found) => assert_eq!(rt; found.as_slice(), wanted),
+        Err(fault) => assert!(rt; false, "{fault:?}"),
+    }
+    Ok(())
+}
+
+// Finds this fault.
+fn expect_fault(
+    rt: &impl Abort,
+    alloc: Global,
+    rows: &[Line],
+    definitions: &[Line],
+    wanted: AreaFault,
+) -> Result<(), Fail> {
+    match areas_of(alloc, LAST, rows, definitions)? {
+        Ok(found) => assert!(rt; false, "{} areas", found.len()),
+        Err(fault) => assert_eq!(rt; fault, wanted),
+    }
+    Ok(())
 }
 
 #[test]
@@ -210,63 +240,62 @@ fn rows_go_to_definitions_of_their_type_in_order(rt: HostRuntime) -> Result<(), 
 
 #[test]
 fn areas_of_rows(rt: HostRuntime) -> Result<(), Fail> {
-    let cases = [
-        Case {
-            name: "a row up to the end doesn't grow",
-            last: LAST,
-            rows: &[(1, 2048, 128_991)],
-            definitions: &[(1, 2560, 0)],
-            areas: Ok(&[free(256, 0), free(16_380, 0)]),
-        },
-        Case {
-            name: "with more behind it the same row grows",
-            last: 262_110,
-            rows: &[(1, 2048, 128_991)],
-            definitions: &[(1, 2560, 0)],
-            areas: Ok(&[free(256, 0), anchor(256, 32_507, 0, 16_124)]),
-        },
-        Case {
-            name: "an anchor without room for its padding",
-            last: LAST,
-            rows: &[(1, 2048, 8192), (9, 10_240, 8)],
-            definitions: &[(1, 1, 1)],
-            areas: Err(existing(0, 4_198_400, 4_194_304)),
-        },
-        Case {
-            name: "a row at an odd start doesn't grow",
-            last: LAST,
-            rows: &[(1, 2049, 100_000)],
-            definitions: &[(1, 2560, 0)],
-            areas: Ok(&[free(256, 0), free(12_757, 3622)]),
-        },
-        Case {
-            name: "a row that ends in the middle of a grain, and rows that touch",
-            last: LAST,
-            rows: &[(9, 4100, 100), (9, 2048, 2052)],
-            definitions: &[],
-            areas: Ok(&[free(256, 0), free(513, 0), free(525, 15_854)]),
-        },
-        Case {
-            name: "a row whose last grain reaches into the next row",
-            last: LAST,
-            rows: &[(1, 2048, 9), (9, 2062, 2)],
-            definitions: &[(1, 1, 0)],
-            areas: Ok(&[free(256, 0), free(258, 0), free(258, 16_121)]),
-        },
-        Case {
-            name: "the least file is named",
-            last: LAST,
-            rows: &[(1, 4097, 8), (1, 2049, 9)],
-            definitions: &[(1, 2560, 0), (1, 2560, 0)],
-            areas: Err(existing(0, 10_485_760, 4096)),
-        },
-    ];
-    for case in &cases {
-        match (areas_of(rt.alloc(), case)?, case.areas) {
-            (Ok(found), Ok(wanted)) => assert_eq!(rt; found.as_slice(), wanted, "{}", case.name),
-            (Err(found), Err(wanted)) => assert_eq!(rt; found, wanted, "{}", case.name),
-            _ => assert!(rt; false, "{}", case.name),
-        }
-    }
-    Ok(())
+    let alloc = rt.alloc();
+    let long = [(1, 2048, 128_991)];
+    let wide = [(1, 2560, 0)];
+
+    // a row up to the end doesn't grow, and with more behind it the same row does
+    expect_areas(
+        &rt,
+        alloc,
+        LAST,
+        &long,
+        &wide,
+        &[free(256, 0), free(16_380, 0)],
+    )?;
+    expect_areas(
+        &rt,
+        alloc,
+        262_110,
+        &long,
+        &wide,
+        &[free(256, 0), anchor(256, 32_507, 0, 16_124)],
+    )?;
+
+    // nor does one at an odd start, or one whose last grain reaches into the next row
+    expect_areas(
+        &rt,
+        alloc,
+        LAST,
+        &[(1, 2049, 100_000)],
+        &wide,
+        &[free(256, 0), free(12_757, 3622)],
+    )?;
+    let touching = [(1, 2048, 9), (9, 2062, 2)];
+    expect_areas(
+        &rt,
+        alloc,
+        LAST,
+        &touching,
+        &[(1, 1, 0)],
+        &[free(256, 0), free(258, 0), free(258, 16_121)],
+    )?;
+
+    // an anchor without room for its padding, and of two that can't stay the least file
+    let short = [(1, 2048, 8192), (9, 10_240, 8)];
+    expect_fault(
+        &rt,
+        alloc,
+        &short,
+        &[(1, 1, 1)],
+        existing(0, 4_198_400, 4_194_304),
+    )?;
+    let odd = [(1, 4097, 8), (1, 2049, 9)];
+    expect_fault(
+        &rt,
+        alloc,
+        &odd,
+        &[(1, 2560, 0), (1, 2560, 0)],
+        existing(0, 10_485_760, 4096),
+    )
 }
