@@ -2,7 +2,5 @@
 #![tactic(auto)]
 
 mod commands;
-mod line;
 
 pub use commands::run;
-pub use line::Command;
