@@ -1,6 +1,6 @@
 -- A file that was parsed: its names differ, and it has at most as many assignments as bytes.
 use Rattle.std.proofs.Common.{◌≡◌, ℕ, zero, suc, ◌+◌, ◌≤◌, List, [], ◌∷◌, ◌++◌, Bool, true, false, cond, not, ◌&&◌, ◌||◌, Option, Some, None, Result, Ok, Err, length, take, drop, subst, inl, inr, refl, ap, sym, ◌∙◌, arith}
-use Rattle.std.specs.Prelude.{sum_by, ◌==◌, nat_lt}
+use Rattle.std.specs.Prelude.{sum_by, ◌==◌}
 use Rattle.std.specs.List.{list_any, onto_first}
 use Rattle.std.specs.Str.{bytes_eq, is_utf8}
 use Rattle.std.specs.Str.Lossy.{utf8_valid_len}
@@ -11,9 +11,11 @@ use Rattle.std.proofs.lemmas.List.Sums.{sum_by-cons, sum_by_push}
 use Rattle.rp_base.specs.Answers.{Gives}
 use Rattle.rp_ini.specs.declared.assign.Assign.{Assign}
 use Rattle.rp_ini.specs.declared.fault.IniFault.{IniFault}
-use Rattle.rp_ini.specs.declared.fault.IniFault.TheVariants.{NotUtf8, TooLong, Memory}
-use Rattle.rp_ini.specs.Text.{Line, lines_of, kept_lines, logical_lines, trim_start, trim_end, is_comment, continues, joined, opened}
-use Rattle.rp_ini.specs.Lines.{Section, Draft, is_named, with_assign, header_of, assignment_of, after_header, assigned, after_assignment, after_text, after_line, after_lines, without_mark, line_at, assignments}
+use Rattle.rp_ini.specs.declared.fault.IniFault.TheVariants.{NotUtf8, Memory}
+use Rattle.rp_ini.specs.Text.{Line, lines_of, kept_lines, logical_lines, trim_start, is_comment, continues, joined, opened}
+use Rattle.rp_ini.specs.Lines.{Section, Entry, Nothing, Header, Assignment, is_named, entry_of, without_mark, line_at, assignments}
+use Rattle.rp_ini.specs.Parser.{Progress, with_assign, open_place, assigned, after_entry, after_read, after_line, after_lines}
+use Rattle.rp_ini.proofs.ParserLemmas.{parsed_lines}
 use Rattle.rp_ini.proofs.FileLemmas.{list_any-map}
 use Rattle.rp_defs.specs.Slots.{differ, IsParsed}
 use Rattle.rp_defs.proofs.IgnoredLemmas.{names_of, other_name}
@@ -46,13 +48,8 @@ section_keeps false most name sections is h = record {
   few = let few = h.few in let more = sum_by_push (λ (s : Section). length s.assigns) sections (record { name = name; assigns = [] }) in omega arith;
 }
 
-draft_sections : (most : ℕ) (a b : Draft) → IsKept most a.sections → ◌≡◌ {A = Result Draft IniFault} (Ok a) (Ok b) → IsKept most b.sections
-draft_sections most a b h is = let same : a ≡ b = cc in subst (λ (d : Draft). IsKept most d.sections) same h
-
-header_keeps : (most : ℕ) (draft next : Draft) (number : ℕ) (name : Option (List ℕ)) → IsKept most draft.sections → after_header draft number name ≡ Ok next → IsKept (most + 1) next.sections
-header_keeps most draft next number None h is = absurd (cc)
-header_keeps most draft next number (Some name) h is =
-    draft_sections (most + 1) _ next (section_keeps (list_any (is_named name) draft.sections) most name draft.sections (list_any-map (λ (s : Section). s.name) (bytes_eq name) draft.sections) h) is
+progress_sections : (most : ℕ) (a b : Progress) → IsKept most a.sections → ◌≡◌ {A = Result Progress IniFault} (Ok a) (Ok b) → IsKept most b.sections
+progress_sections most a b h is = let same : a ≡ b = cc in subst (λ (p : Progress). IsKept most p.sections) same h
 
 names-with_assign : (place : ℕ) (assign : Assign) (sections : List Section) → names_of (with_assign place assign sections) ≡ names_of sections
 names-with_assign place assign [] = refl
@@ -70,45 +67,38 @@ count-with_assign (suc place) assign (section ∷ sections) =
     let now = sum_by-cons (λ (s : Section). length s.assigns) section (with_assign place assign sections) in
     let rest = count-with_assign place assign sections in omega (arith, before, now, rest)
 
-assigned_keeps : (most : ℕ) (draft next : Draft) (assign : Assign) (place : Option ℕ) → IsKept most draft.sections → assigned draft assign place ≡ Ok next → IsKept (most + 1) next.sections
-assigned_keeps most draft next assign None h is = absurd (cc)
-assigned_keeps most draft next assign (Some place) h is =
-    draft_sections (most + 1) _ next
+assigned_keeps : (most : ℕ) (sections : List Section) (next : Progress) (assign : Assign) (place : Result ℕ IniFault) → IsKept most sections → assigned sections assign place ≡ Ok next → IsKept (most + 1) next.sections
+assigned_keeps most sections next assign (Err fault) h is = absurd (cc)
+assigned_keeps most sections next assign (Ok place) h is =
+    progress_sections (most + 1) _ next
     (record {
-      apart = ap differ (names-with_assign place assign draft.sections) ∙ h.apart;
-      few = let few = h.few in let more = count-with_assign place assign draft.sections in omega arith;
+      apart = ap differ (names-with_assign place assign sections) ∙ h.apart;
+      few = let few = h.few in let more = count-with_assign place assign sections in omega arith;
     }) is
 
-assignment_keeps : (most : ℕ) (draft next : Draft) (number : ℕ) (pair : Option (List ℕ × List ℕ)) → IsKept most draft.sections → after_assignment draft number pair ≡ Ok next → IsKept (most + 1) next.sections
-assignment_keeps most draft next number None h is = absurd (cc)
-assignment_keeps most draft next number (Some pair) h is = assigned_keeps most draft next (record { key = pair.0; value = pair.1; line = number }) draft.current h is
+entry_keeps : (most : ℕ) (progress next : Progress) (number : ℕ) (entry : Entry) → IsKept most progress.sections → after_entry progress number entry ≡ Ok next → IsKept (most + 1) next.sections
+entry_keeps most progress next number Nothing h is = progress_sections (most + 1) progress next (record { apart = h.apart; few = let few = h.few in omega arith }) is
+entry_keeps most progress next number (Header name) h is =
+    progress_sections (most + 1) _ next
+    (section_keeps (list_any (is_named name) progress.sections) most name progress.sections (list_any-map (λ (s : Section). s.name) (bytes_eq name) progress.sections) h) is
+entry_keeps most progress next number (Assignment key value) h is =
+    assigned_keeps most progress.sections next (record { key = key; value = value; line = number }) (open_place number progress.current) h is
 
-either : (b : Bool) (first second : Result Draft IniFault) (next : Draft) (P : Type 0) → cond b first second ≡ Ok next → (first ≡ Ok next → P) → (second ≡ Ok next → P) → P
-either true first second next P is f s = f is
-either false first second next P is f s = s is
+read_keeps : (most : ℕ) (progress next : Progress) (number : ℕ) (read : Result Entry IniFault) → IsKept most progress.sections → after_read progress number read ≡ Ok next → IsKept (most + 1) next.sections
+read_keeps most progress next number (Err fault) h is = absurd (cc)
+read_keeps most progress next number (Ok entry) h is = entry_keeps most progress next number entry h is
 
-text_keeps : (most : ℕ) (draft next : Draft) (number : ℕ) (text : List ℕ) → IsKept most draft.sections → after_text draft number text ≡ Ok next → IsKept (most + 1) next.sections
-text_keeps most draft next number [] h is = draft_sections (most + 1) draft next (record { apart = h.apart; few = let few = h.few in omega arith }) is
-text_keeps most draft next number (byte ∷ bytes) h is =
-    either (byte == 91) (after_header draft number (header_of (byte ∷ bytes))) (after_assignment draft number (assignment_of (byte ∷ bytes))) next (IsKept (most + 1) next.sections) is
-    (header_keeps most draft next number (header_of (byte ∷ bytes)) h) (assignment_keeps most draft next number (assignment_of (byte ∷ bytes)) h)
-
-line_keeps : (most : ℕ) (draft next : Draft) (line : Line) → IsKept most draft.sections → after_line draft line ≡ Ok next → IsKept (most + 1) next.sections
-line_keeps most draft next line h is =
-    either (nat_lt 4096 (length line.text)) (Err (TooLong line.number)) (after_text draft line.number (trim_end line.text)) next (IsKept (most + 1) next.sections) is
-    (λ no. absurd (cc)) (text_keeps most draft next line.number (trim_end line.text) h)
-
-after_step : (r : Result Draft IniFault) (lines : List Line) (sections : List Section) (P : Type 0) → after_lines r lines ≡ Ok sections → ((next : Draft) → r ≡ Ok next → after_lines (Ok next) lines ≡ Ok sections → P) → P
+after_step : (r : Result Progress IniFault) (lines : List Line) (sections : List Section) (P : Type 0) → after_lines r lines ≡ Ok sections → ((next : Progress) → r ≡ Ok next → after_lines (Ok next) lines ≡ Ok sections → P) → P
 after_step (Err fault) lines sections P is then = absurd (cc)
 after_step (Ok next) lines sections P is then = then next refl is
 
-lines_keep : (most : ℕ) (draft : Draft) (lines : List Line) (sections : List Section) → IsKept most draft.sections → after_lines (Ok draft) lines ≡ Ok sections → IsKept (most + length lines) sections
-lines_keep most draft [] sections h is =
-    let same : draft.sections ≡ sections = cc in subst (IsKept (most + 0)) same (record { apart = h.apart; few = let few = h.few in omega arith })
-lines_keep most draft (line ∷ lines) sections h is =
+lines_keep : (most : ℕ) (progress : Progress) (lines : List Line) (sections : List Section) → IsKept most progress.sections → after_lines (Ok progress) lines ≡ Ok sections → IsKept (most + length lines) sections
+lines_keep most progress [] sections h is =
+    let same : progress.sections ≡ sections = cc in subst (IsKept (most + 0)) same (record { apart = h.apart; few = let few = h.few in omega arith })
+lines_keep most progress (line ∷ lines) sections h is =
     let size : most + 1 + length lines ≡ most + suc (length lines) = omega arith in
-    after_step (after_line draft line) lines sections (IsKept (most + suc (length lines)) sections) is
-    (λ next one rest. subst (λ n. IsKept n sections) size (lines_keep (most + 1) next lines sections (line_keeps most draft next line h one) rest))
+    after_step (after_line progress line) lines sections (IsKept (most + suc (length lines)) sections) is
+    (λ next one rest. subst (λ n. IsKept n sections) size (lines_keep (most + 1) next lines sections (read_keeps most progress next line.number (entry_of line) h one) rest))
 
 length-joined : (number : ℕ) (text : List ℕ) (lines : List Line) → length (joined number text lines) ≤ suc (length lines)
 length-joined number text [] = omega arith
@@ -162,7 +152,7 @@ parsed_text false fault r sections is = absurd (cc)
 parsed : (bytes : List ℕ) (sections : List Section) → length bytes ≤ 65536 → assignments bytes ≡ Ok sections → IsParsed sections
 parsed bytes sections short is =
     let kept = lines_keep 0 (record { sections = []; current = None }) (logical_lines (kept_lines 1 (lines_of (without_mark bytes)))) sections
-    (record { apart = refl; few = omega arith }) (parsed_text (is_utf8 bytes) (NotUtf8 (line_at bytes (utf8_valid_len bytes))) _ sections is) in
+    (record { apart = refl; few = omega arith }) (parsed_lines (logical_lines (kept_lines 1 (lines_of (without_mark bytes)))) ∙ parsed_text (is_utf8 bytes) (NotUtf8 (line_at bytes (utf8_valid_len bytes))) _ sections is) in
     let few = kept.few in let lines = length-lines bytes in
     record { apart = kept.apart; few = omega arith }
 

@@ -33,7 +33,7 @@ fn shown(rt: &impl AllocGlobal, pieces: &[Piece]) -> Result<String, Fail> {
         return Ok(text);
     }
     match settings_of(rt.alloc(), pieces) {
-        Err(fault) => write!(text, "{} {fault}", fault.part.as_str())?,
+        Err(fault) => write!(text, "{} line {}: {fault}", fault.part.as_str(), fault.line)?,
         Ok(settings) => {
             let mut key = 0u8;
             for slot in settings.counting.as_slice() {
@@ -97,10 +97,7 @@ fn each_fault_of_a_text_is_named(rt: HostRuntime) -> Result<(), Fail> {
         text.push('v')?;
     }
     let pieces = [piece(&rt, "", text.as_str())?];
-    assert_eq!(rt;
-        shown(&rt, &pieces)?.as_str(),
-        " line 3: longer than 4,096 bytes"
-    );
+    assert_eq!(rt; shown(&rt, &pieces)?.as_str(), " line 3: too long a line");
     let pieces = [piece(&rt, "20.conf", "Label=a\n")?];
     assert_eq!(rt;
         shown(&rt, &pieces)?.as_str(),

@@ -14,11 +14,12 @@ pub enum LoadFault {
     #[error("the folders failed")]
     FolderFault,
     /// More than 256 names win.
-    #[error("more than 256 definition files")]
+    #[error("too many definition files")]
     TooMany,
     /// The piece has more than 65,536 bytes. `part` is empty for a main file.
-    #[error("a definition file of more than 65,536 bytes")]
+    #[error("a definition file is too big")]
     TooBig { file: Text, part: Text },
+    /// There was no memory for the pieces.
     #[error("out of memory")]
     Memory,
 }

@@ -9,7 +9,8 @@ use Rattle.std.proofs.lemmas.Bool.{ltb-true, ltb-false, false≢true}
 use Rattle.std.proofs.lemmas.List.{length-append}
 use Rattle.std.proofs.lemmas.Option.{cond_some, none-some}
 use Rattle.rp_ini.specs.declared.assign.Assign.{Assign}
-use Rattle.rp_ini.specs.Lines.{Section, is_named, place_of, with_assign, with_section, assigns_of}
+use Rattle.rp_ini.specs.Lines.{Section, is_named, assigns_of}
+use Rattle.rp_ini.specs.Parser.{place_of, with_assign, with_section}
 use Rattle.rp_ini.specs.File.{sections_of}
 
 pub position_or_len-map : {A B : Type 0} (f : A → B) (p : B → Bool) (xs : List A) → position_or_len p (map f xs) ≡ position_or_len (λ x. p (f x)) xs

@@ -1,6 +1,6 @@
 -- What the logical lines of a definition file assign (systemd.syntax(7)).
-use Rattle.std.specs.Prelude.{ℕ, zero, suc, ◌+◌, ◌-◌, List, [], ◌∷◌, ◌++◌, Bool, ◌&&◌, ◌||◌, not, if◌then◌else◌, ◌==◌, nat_lt, Option, Some, None, Result, Ok, Err, take, drop, length, count_by}
-use Rattle.std.specs.List.{list_any, position_or_len, before_first, after_first}
+use Rattle.std.specs.Prelude.{ℕ, ◌+◌, ◌-◌, List, [], ◌∷◌, ◌++◌, Bool, ◌&&◌, ◌||◌, not, if◌then◌else◌, ◌==◌, nat_lt, Option, Some, None, Result, Ok, Err, take, drop, fold, length, count_by}
+use Rattle.std.specs.List.{list_any, before_first, after_first}
 use Rattle.std.specs.Str.{bytes_eq, is_utf8}
 use Rattle.std.specs.Str.Lossy.{utf8_valid_len}
 use Rattle.rp_ini.specs.declared.fault.IniFault.{IniFault}
@@ -8,15 +8,10 @@ use Rattle.rp_ini.specs.declared.fault.IniFault.TheVariants.{NotUtf8, TooLong, B
 use Rattle.rp_ini.specs.declared.assign.Assign.{Assign}
 use Rattle.rp_ini.specs.Text.{Line, lines_of, kept_lines, logical_lines, trim, trim_end}
 
--- a section: its name, and all assignments of the sections of that name in order
+-- a section: its name, and assignments that stand in it
 pub record Section : Type 0 where
   pub name : List ℕ
   pub assigns : List Assign
-
--- the sections so far, in order of first appearance, and the place of the one that is open
-pub record Draft : Type 0 where
-  pub sections : List Section
-  pub current : Option ℕ
 
 -- the name of a section isn't empty and has no brackets
 abbrev pub is_section_name : List ℕ → Bool
@@ -34,52 +29,62 @@ assignment_of text =
     let key = trim (before_first (λ byte. byte == 61) text) in
     if list_any (λ byte. byte == 61) text && not (length key == 0) then Some (key, trim (after_first (λ byte. byte == 61) text)) else None
 
+-- what a logical line says: nothing, the header of a section, or an assignment of a key and a value
+pub data Entry : Type 0 where
+  Nothing : Entry
+  Header : List ℕ → Entry
+  Assignment : List ℕ → List ℕ → Entry
+
+abbrev pub header_entry : ℕ → Option (List ℕ) → Result Entry IniFault
+header_entry number None = Err (BadLine number)
+header_entry number (Some name) = Ok (Header name)
+
+abbrev pub assignment_entry : ℕ → Option (List ℕ × List ℕ) → Result Entry IniFault
+assignment_entry number None = Err (BadLine number)
+assignment_entry number (Some pair) = Ok (Assignment pair.0 pair.1)
+
+-- a line that begins with `[` is a header, and any other that isn't empty is an assignment
+abbrev pub entry_in : ℕ → List ℕ → Result Entry IniFault
+entry_in number [] = Ok Nothing
+entry_in number (byte ∷ bytes) = if byte == 91 then header_entry number (header_of (byte ∷ bytes)) else assignment_entry number (assignment_of (byte ∷ bytes))
+
+-- what a logical line of at most 4,096 bytes says without the white space at its end, or its fault
+abbrev pub entry_of : Line → Result Entry IniFault
+entry_of line = if nat_lt 4096 (length line.text) then Err (TooLong line.number) else entry_in line.number (trim_end line.text)
+
+-- a section and those behind it, or their fault
+abbrev pub with_first : Section → Result (List Section) IniFault → Result (List Section) IniFault
+with_first section (Ok sections) = Ok (section ∷ sections)
+with_first section (Err fault) = Err fault
+
+-- an entry gives a section without assignments, or one with one: that of the nearest header above. `rest` gives those behind
+abbrev pub written_by : Option (List ℕ) → ℕ → Result Entry IniFault → (Option (List ℕ) → Result (List Section) IniFault) → Result (List Section) IniFault
+written_by header number (Err fault) rest = Err fault
+written_by header number (Ok Nothing) rest = rest header
+written_by header number (Ok (Header name)) rest = with_first (record { name = name; assigns = [] }) (rest (Some name))
+written_by None number (Ok (Assignment key value)) rest = Err (NoSection number)
+written_by (Some name) number (Ok (Assignment key value)) rest =
+    with_first (record { name = name; assigns = record { key = key; value = value; line = number } ∷ [] }) (rest (Some name))
+
+-- the sections as they are written, part by part, or the first fault by line. The nearest header above these lines is given
+abbrev pub written : Option (List ℕ) → List Line → Result (List Section) IniFault
+written header [] = Ok []
+written header (line ∷ lines) = written_by header line.number (entry_of line) (λ nearest. written nearest lines)
+
 -- the test for a section of this name
 abbrev pub is_named : List ℕ → Section → Bool
 is_named name section = bytes_eq name section.name
 
--- the sections with one of this name, and its place: a new one goes last
-abbrev pub with_section : List ℕ → List Section → List Section
-with_section name sections = if list_any (is_named name) sections then sections else sections ++ record { name = name; assigns = [] } ∷ []
+-- the sections with a part of one: it goes to the section of its name, or is a new one behind the others
+abbrev pub with_part : List Section → Section → List Section
+with_part [] part = part ∷ []
+with_part (section ∷ sections) part =
+    if is_named part.name section then record { name = section.name; assigns = section.assigns ++ part.assigns } ∷ sections else section ∷ with_part sections part
 
-abbrev pub place_of : List ℕ → List Section → ℕ
-place_of name sections = position_or_len (is_named name) sections
-
--- the section at a place has one more assignment
-abbrev pub with_assign : ℕ → Assign → List Section → List Section
-with_assign place assign [] = []
-with_assign zero assign (section ∷ sections) = record { name = section.name; assigns = section.assigns ++ assign ∷ [] } ∷ sections
-with_assign (suc place) assign (section ∷ sections) = section ∷ with_assign place assign sections
-
--- the draft after a header
-abbrev pub after_header : Draft → ℕ → Option (List ℕ) → Result Draft IniFault
-after_header draft number None = Err (BadLine number)
-after_header draft number (Some name) = Ok (record { sections = with_section name draft.sections; current = Some (place_of name draft.sections) })
-
--- the draft after an assignment, which needs an open section
-abbrev pub assigned : Draft → Assign → Option ℕ → Result Draft IniFault
-assigned draft assign None = Err (NoSection assign.line)
-assigned draft assign (Some place) = Ok (record { sections = with_assign place assign draft.sections; current = Some place })
-
-abbrev pub after_assignment : Draft → ℕ → Option (List ℕ × List ℕ) → Result Draft IniFault
-after_assignment draft number None = Err (BadLine number)
-after_assignment draft number (Some pair) = assigned draft (record { key = pair.0; value = pair.1; line = number }) draft.current
-
--- the draft after a logical line that has no white space at its end
-abbrev pub after_text : Draft → ℕ → List ℕ → Result Draft IniFault
-after_text draft number [] = Ok draft
-after_text draft number (byte ∷ bytes) =
-    if byte == 91 then after_header draft number (header_of (byte ∷ bytes)) else after_assignment draft number (assignment_of (byte ∷ bytes))
-
--- the draft after a logical line, which has at most 4,096 bytes
-abbrev pub after_line : Draft → Line → Result Draft IniFault
-after_line draft line = if nat_lt 4096 (length line.text) then Err (TooLong line.number) else after_text draft line.number (trim_end line.text)
-
--- the sections after all logical lines, or the first fault
-abbrev pub after_lines : Result Draft IniFault → List Line → Result (List Section) IniFault
-after_lines (Err fault) lines = Err fault
-after_lines (Ok draft) [] = Ok draft.sections
-after_lines (Ok draft) (line ∷ lines) = after_lines (after_line draft line) lines
+-- behind these sections, the parts by section: all of one name are one, in order of first appearance
+abbrev pub merged : List Section → Result (List Section) IniFault → Result (List Section) IniFault
+merged sections (Ok parts) = Ok (fold with_part sections parts)
+merged sections (Err fault) = Err fault
 
 -- the text without a byte order mark at its front
 abbrev pub without_mark : List ℕ → List ℕ
@@ -92,7 +97,7 @@ line_at bytes place = count_by (λ byte. byte == 10) (take place bytes) + 1
 -- the assignments of a definition file by section, or its first fault: that it isn't UTF-8 comes before all else
 abbrev pub assignments : List ℕ → Result (List Section) IniFault
 assignments bytes =
-    if is_utf8 bytes then after_lines (Ok (record { sections = []; current = None })) (logical_lines (kept_lines 1 (lines_of (without_mark bytes))))
+    if is_utf8 bytes then merged [] (written None (logical_lines (kept_lines 1 (lines_of (without_mark bytes)))))
     else Err (NotUtf8 (line_at bytes (utf8_valid_len bytes)))
 
 -- the assignments of a section, none where there is no such section

@@ -9,17 +9,18 @@ use thiserror::Error;
 #[derive(Clone, Copy, Debug, PartialEq, Eq, Error)]
 pub enum IniFault {
     /// The line has the first byte that isn't UTF-8.
-    #[error("line {line}: not UTF-8")]
+    #[error("not UTF-8")]
     NotUtf8 { line: u32 },
     /// The logical line has more than 4,096 bytes.
-    #[error("line {line}: longer than 4,096 bytes")]
+    #[error("too long a line")]
     TooLong { line: u32 },
     /// The logical line is neither `[name]` nor `key=value`.
-    #[error("line {line}: neither a section nor an assignment")]
+    #[error("neither a section nor an assignment")]
     BadLine { line: u32 },
     /// The assignment stands before the first section.
-    #[error("line {line}: an assignment before the first section")]
+    #[error("an assignment before the first section")]
     NoSection { line: u32 },
+    /// There was no memory for the sections.
     #[error("out of memory")]
     Memory,
 }

@@ -1,5 +1,6 @@
 ghost use Rattle.std.specs.Prelude.{◌≡◌, ◌<◌, [], length, map, IfOk, IfErr};
 ghost use Rattle.rp_ini.specs.Lines as grammar;
+ghost use Rattle.rp_ini.specs.Parser as steps;
 
 use crate::{Assign, IniFault};
 use indexmap::IndexSet;
@@ -61,8 +62,8 @@ impl File {
 
     /// The file with a section of this name, and the section's place.
     pub(crate) fn with_section(self, alloc: Global, name: &str) -> Result<(File, usize), IniFault>
-        ensures file { IfOk result (λ made. made.0 ≡ grammar.with_section name.now self) }
-        ensures place { IfOk result (λ made. made.1 ≡ grammar.place_of name.now self) }
+        ensures file { IfOk result (λ made. made.0 ≡ steps.with_section name.now self) }
+        ensures place { IfOk result (λ made. made.1 ≡ steps.place_of name.now self) }
         ensures inside { IfOk result (λ made. made.1 < length made.0) }
         ensures fault { IfErr result (λ fault. fault ≡ IniFault.Memory) }
     {
@@ -97,7 +98,7 @@ impl File {
     /// The file with one more assignment in the section at this place.
     pub(crate) fn with_assign(self, place: usize, assign: Assign) -> Result<File, IniFault>
         requires { place < length self }
-        ensures file { IfOk result (λ file. file ≡ grammar.with_assign place assign self) }
+        ensures file { IfOk result (λ file. file ≡ steps.with_assign place assign self) }
         ensures len { IfOk result (λ file. length file ≡ length self) }
         ensures fault { IfErr result (λ fault. fault ≡ IniFault.Memory) }
     {

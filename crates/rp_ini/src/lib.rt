@@ -3,10 +3,9 @@
 
 mod assign;
 mod decode;
-mod draft;
+mod entry;
 mod fault;
 mod file;
-mod line;
 mod lines;
 mod logical;
 mod parser;

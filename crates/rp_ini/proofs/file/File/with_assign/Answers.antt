@@ -1,6 +1,6 @@
 use Rattle.std.proofs.Common.{length, ap, sym, ◌∙◌, arith}
 use Rattle.std.proofs.Math.ListN.{length-set}
-use Rattle.rp_ini.specs.Lines.{with_assign}
+use Rattle.rp_ini.specs.Parser.{with_assign}
 use Rattle.rp_ini.proofs.FileLemmas.{length-sections_of, sections_of-set}
 use Rattle.rp_ini.proofs.file.File.with_assign.Goals as goal
 

@@ -1,6 +1,6 @@
 -- The index, the names and the lists grow together, or stay.
 use Rattle.std.proofs.Common.{◌∷◌, ◌++◌, [], ap, ◌∙◌}
-use Rattle.rp_ini.specs.Lines.{with_section, place_of}
+use Rattle.rp_ini.specs.Parser.{with_section, place_of}
 use Rattle.rp_ini.specs.File.{sections_of}
 use Rattle.rp_ini.proofs.FileLemmas.{section_added, section_kept, section_same, sections_of-push, place_found, place_within, place_at_end}
 use Rattle.rp_ini.proofs.file.File.with_section.Goals as goal

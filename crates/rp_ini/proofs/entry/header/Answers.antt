@@ -1,7 +1,7 @@
 use Rattle.std.proofs.Common.{Some, None, cond, sym, ◌∙◌, ap, ◌∷◌, lit<}
 use Rattle.std.proofs.lemmas.Str.Pattern.{strip_prefix_char, strip_suffix_char}
 use Rattle.rp_ini.proofs.LineLemmas.{header_of-there, no_opening, no_closing}
-use Rattle.rp_ini.proofs.line.header.Goals as goal
+use Rattle.rp_ini.proofs.entry.header.Goals as goal
 
 pub returns-in_err-strip_prefix : goal.returns-in_err-strip_prefix
 returns-in_err-strip_prefix c = rw c.from_residual.ensures (sym (no_opening _ c.in_err-strip_prefix.ensures.cases))
