@@ -8,11 +8,12 @@ use Rattle.std.proofs.lemmas.Grind.{flat_map-append}
 use Rattle.std.proofs.lemmas.List.{flat_map_more, append-nil, length-append, drop_at}
 use Rattle.std.proofs.lemmas.List.Elements.{recursion_from_All, All-nil, All-cons, All-tail}
 use Rattle.rp_base.specs.declared.table.Row.{Row}
-use Rattle.rp_base.specs.Table.{IsWritableRow}
-use Rattle.rp_gpt.specs.Copy.{RowFits, row_bytes, slot_bytes, array_bytes, entry_of, is_used, is_ordered, rows_of, row_of, unordered_slot}
+use Rattle.rp_base.specs.Geometry.{IsSector}
+use Rattle.rp_base.specs.Table.{IsWritableRow, RowFits}
+use Rattle.rp_gpt.specs.Copy.{row_bytes, slot_bytes, array_bytes, entry_of, is_used, is_ordered, rows_of, row_of, unordered_slot}
 use Rattle.rp_gpt.proofs.Fields.{range_here}
 use Rattle.rp_gpt.proofs.Rising.{Rising, filter_above, find_above, filter_more, found_passes}
-use Rattle.rp_gpt.proofs.RowEntry.{length-row_bytes, row_bytes-holds, holds-used, holds-ordered, holds-row, zeros-unused}
+use Rattle.rp_gpt.proofs.RowEntry.{row_sectors, length-row_bytes, row_bytes-holds, holds-used, holds-ordered, holds-row, zeros-unused}
 use Rattle.rp_gpt.proofs.Slots.{range_split, slots_split, rows_of-used, rows_of-unused, unordered-used, unordered-unused, rows_of-zero, unordered-zero}
 
 -- what is found in a list has what each of its elements has
@@ -40,104 +41,105 @@ rows_fit low m (row ∷ rows) rising below h =
     (rows_fit (row.slot + 1) m rows rising.1 (All-tail (λ r. r.slot < m) row rows below)
     (λ slot inside. rest_fits row rows slot rising.1 (h slot inside) (cases_lt row.slot slot)))
 
-pub array_bytes-none : (rows : List Row) → array_bytes rows 0 ≡ []
+pub array_bytes-none : (sector : ℕ) (rows : List Row) → array_bytes sector rows 0 ≡ []
 unfolding array_bytes
-array_bytes-none rows = refl
+array_bytes-none sector rows = refl
 
 -- one entry more
-pub array_bytes-more : (rows : List Row) (n : ℕ) → array_bytes rows n ++ slot_bytes rows n ≡ array_bytes rows (n + 1)
+pub array_bytes-more : (sector : ℕ) (rows : List Row) (n : ℕ) → array_bytes sector rows n ++ slot_bytes sector rows n ≡ array_bytes sector rows (n + 1)
 unfolding array_bytes
-array_bytes-more rows n =
-    flat_map_more (slot_bytes rows) [] (range_with_len 0 n) n
-    ∙ ap (λ k. flat_map (slot_bytes rows) (range_with_len 0 n ++ k ∷ [])) (sym (zero-add n))
-    ∙ ap (flat_map (slot_bytes rows)) (sym (range_split 0 n 1))
+array_bytes-more sector rows n =
+    flat_map_more (slot_bytes sector rows) [] (range_with_len 0 n) n
+    ∙ ap (λ k. flat_map (slot_bytes sector rows) (range_with_len 0 n ++ k ∷ [])) (sym (zero-add n))
+    ∙ ap (flat_map (slot_bytes sector rows)) (sym (range_split 0 n 1))
 
 -- the array from a slot on
-array_bytes-from : (rows : List Row) (n m : ℕ) → n < m → (rest : List ℕ) × (array_bytes rows m ≡ array_bytes rows n ++ (slot_bytes rows n ++ rest))
+array_bytes-from : (sector : ℕ) (rows : List Row) (n m : ℕ) → n < m → (rest : List ℕ) × (array_bytes sector rows m ≡ array_bytes sector rows n ++ (slot_bytes sector rows n ++ rest))
 unfolding array_bytes
-array_bytes-from rows n m below = (
-  flat_map (slot_bytes rows) (range_with_len (n + 1) (m - n - 1)),
-  ap (flat_map (slot_bytes rows)) (slots_split n m below) ∙ flat_map-append (slot_bytes rows) (range_with_len 0 n) (n ∷ range_with_len (n + 1) (m - n - 1)),
+array_bytes-from sector rows n m below = (
+  flat_map (slot_bytes sector rows) (range_with_len (n + 1) (m - n - 1)),
+  ap (flat_map (slot_bytes sector rows)) (slots_split n m below) ∙ flat_map-append (slot_bytes sector rows) (range_with_len 0 n) (n ∷ range_with_len (n + 1) (m - n - 1)),
 )
 
 -- the entries have one length
-module _ (rows : List Row) (fits : All RowFits rows) where
-  length-entry : (slot : ℕ) (found : Option Row) → find (λ r. eqb r.slot slot) rows ≡ found → length (option_map_or row_bytes found (replicate 128 0)) ≡ 128
+module _ (sector : ℕ) (rows : List Row) (fits : All RowFits rows) where
+  length-entry : (slot : ℕ) (found : Option Row) → find (λ r. eqb r.slot slot) rows ≡ found → length (option_map_or (row_bytes sector) found (replicate 128 0)) ≡ 128
   length-entry slot None e = refl
-  length-entry slot (Some row) e = length-row_bytes row (found_in RowFits (λ r. eqb r.slot slot) rows row fits (sym e))
+  length-entry slot (Some row) e = length-row_bytes sector row (found_in RowFits (λ r. eqb r.slot slot) rows row fits (sym e))
 
-  pub length-slot_bytes : (slot : ℕ) → length (slot_bytes rows slot) ≡ 128
+  pub length-slot_bytes : (slot : ℕ) → length (slot_bytes sector rows slot) ≡ 128
   unfolding slot_bytes
   length-slot_bytes slot = length-entry slot _ refl
 
-  pub length-array_bytes : (n : ℕ) → length (array_bytes rows n) ≡ 128 * n
-  length-array_bytes zero = ap length (array_bytes-none rows)
+  pub length-array_bytes : (n : ℕ) → length (array_bytes sector rows n) ≡ 128 * n
+  length-array_bytes zero = ap length (array_bytes-none sector rows)
   length-array_bytes (suc n) =
-      ap (λ k. length (array_bytes rows k)) (sym (add-one n)) ∙ ap length (sym (array_bytes-more rows n))
-      ∙ length-append (array_bytes rows n) (slot_bytes rows n) ∙ omega (arith, length-array_bytes n, length-slot_bytes n)
+      ap (λ k. length (array_bytes sector rows k)) (sym (add-one n)) ∙ ap length (sym (array_bytes-more sector rows n))
+      ∙ length-append (array_bytes sector rows n) (slot_bytes sector rows n) ∙ omega (arith, length-array_bytes n, length-slot_bytes n)
 
   -- each slot has its entry
-  pub entry_of-array_bytes : (n m : ℕ) → n < m → entry_of (array_bytes rows m) n ≡ slot_bytes rows n
+  pub entry_of-array_bytes : (n m : ℕ) → n < m → entry_of (array_bytes sector rows m) n ≡ slot_bytes sector rows n
   unfolding entry_of
   entry_of-array_bytes n m below =
-      let from = array_bytes-from rows n m below in
-      range_here (array_bytes rows m) (128 * n) 128 (slot_bytes rows n) from.0
-      (ap (drop (128 * n)) from.1 ∙ drop_at (array_bytes rows n) (slot_bytes rows n ++ from.0) (128 * n) (length-array_bytes n)) (length-slot_bytes n)
+      let from = array_bytes-from sector rows n m below in
+      range_here (array_bytes sector rows m) (128 * n) 128 (slot_bytes sector rows n) from.0
+      (ap (drop (128 * n)) from.1 ∙ drop_at (array_bytes sector rows n) (slot_bytes sector rows n ++ from.0) (128 * n) (length-array_bytes n)) (length-slot_bytes n)
 
 -- the entry of a slot with a row, and of one without
-slot_bytes-some : (rows : List Row) (slot : ℕ) (row : Row) → find (λ r. eqb r.slot slot) rows ≡ Some row → slot_bytes rows slot ≡ row_bytes row
+pub slot_bytes-some : (sector : ℕ) (rows : List Row) (slot : ℕ) (row : Row) → find (λ r. eqb r.slot slot) rows ≡ Some row → slot_bytes sector rows slot ≡ row_bytes sector row
 unfolding slot_bytes
-slot_bytes-some rows slot row e = rw e refl
+slot_bytes-some sector rows slot row e = rw e refl
 
-slot_bytes-none : (rows : List Row) (slot : ℕ) → find (λ r. eqb r.slot slot) rows ≡ None → slot_bytes rows slot ≡ replicate 128 0
+pub slot_bytes-none : (sector : ℕ) (rows : List Row) (slot : ℕ) → find (λ r. eqb r.slot slot) rows ≡ None → slot_bytes sector rows slot ≡ replicate 128 0
 unfolding slot_bytes
-slot_bytes-none rows slot e = rw e refl
+slot_bytes-none sector rows slot e = rw e refl
 
 -- rows that can be written are those that are read
-pub record Reads (rows : List Row) (m n : ℕ) : Type 0 where
-  pub below : rows_of (array_bytes rows m) n ≡ filter (λ r. ltb r.slot n) rows
-  pub ordered : unordered_slot (array_bytes rows m) n ≡ None
+pub record Reads (sector : ℕ) (rows : List Row) (m n : ℕ) : Type 0 where
+  pub below : rows_of sector (array_bytes sector rows m) n ≡ filter (λ r. ltb r.slot n) rows
+  pub ordered : unordered_slot sector (array_bytes sector rows m) n ≡ None
 
-module _ (rows : List Row) (writable : All IsWritableRow rows) (fits : All RowFits rows) (rising : Rising 0 rows) (m : ℕ) where
-  reads-more : (n : ℕ) → n < m → Reads rows m n → (found : Option Row) → find (λ r. eqb r.slot n) rows ≡ found → Reads rows m (n + 1)
+module _ (sector entries : ℕ) (is : IsSector sector) (rows : List Row) (writable : All (IsWritableRow sector entries) rows) (fits : All RowFits rows) (rising : Rising 0 rows) (m : ℕ) where
+  reads-more : (n : ℕ) → n < m → Reads sector rows m n → (found : Option Row) → find (λ r. eqb r.slot n) rows ≡ found → Reads sector rows m (n + 1)
   reads-more n inside before None e =
-      let array = array_bytes rows m in
-      let unused : is_used (entry_of array n) ≡ false = rw (entry_of-array_bytes rows fits n m inside, slot_bytes-none rows n e) zeros-unused in
+      let array = array_bytes sector rows m in
+      let unused : is_used (entry_of array n) ≡ false = rw (entry_of-array_bytes sector rows fits n m inside, slot_bytes-none sector rows n e) zeros-unused in
       record {
-        below = rows_of-unused array n unused ∙ before.below ∙ sym (filter_more 0 n rows rising ∙ rw (e, append-nil) refl);
-        ordered = unordered-unused array n unused before.ordered;
+        below = rows_of-unused sector array n unused ∙ before.below ∙ sym (filter_more 0 n rows rising ∙ rw (e, append-nil) refl);
+        ordered = unordered-unused sector array n unused before.ordered;
       }
   reads-more n inside before (Some row) e =
-      let array = array_bytes rows m in
+      let array = array_bytes sector rows m in
       let slot_is = eqb-true row.slot n (found_passes (λ r. eqb r.slot n) rows row e) in
-      let row_writable = found_in IsWritableRow (λ r. eqb r.slot n) rows row writable (sym e) in
+      let row_writable = found_in (IsWritableRow sector entries) (λ r. eqb r.slot n) rows row writable (sym e) in
       let row_fits = found_in RowFits (λ r. eqb r.slot n) rows row fits (sym e) in
-      let entry_is = entry_of-array_bytes rows fits n m inside ∙ slot_bytes-some rows n row e in
-      let holds = row_bytes-holds row row_writable row_fits in
-      let used : is_used (entry_of array n) ≡ true = rw entry_is (holds-used (row_bytes row) row row_writable row_fits holds) in
-      let ordered : is_ordered (entry_of array n) ≡ true = rw entry_is (holds-ordered (row_bytes row) row row_writable row_fits holds) in
-      let same : row_of (entry_of array n) n ≡ row = rw entry_is (holds-row (row_bytes row) row row_writable row_fits holds n slot_is) in
+      let entry_is = entry_of-array_bytes sector rows fits n m inside ∙ slot_bytes-some sector rows n row e in
+      let sectors = row_sectors sector entries row is row_writable in
+      let holds = row_bytes-holds sector row sectors row_fits in
+      let used : is_used (entry_of array n) ≡ true = rw entry_is (holds-used sector (row_bytes sector row) row row_fits holds row_writable.used) in
+      let ordered : is_ordered sector (entry_of array n) ≡ true = rw entry_is (holds-ordered sector (row_bytes sector row) row row_fits holds sectors) in
+      let same : row_of sector (entry_of array n) n ≡ row = rw entry_is (holds-row sector (row_bytes sector row) row row_fits holds sectors n slot_is) in
       record {
-        below = rows_of-used array n used ∙ rw (before.below, same) (sym (filter_more 0 n rows rising ∙ rw e refl));
-        ordered = unordered-used array n used ordered before.ordered;
+        below = rows_of-used sector array n used ∙ rw (before.below, same) (sym (filter_more 0 n rows rising ∙ rw e refl));
+        ordered = unordered-used sector array n used ordered before.ordered;
       }
 
-  pub reads : (n : ℕ) → n ≤ m → Reads rows m n
-  reads zero inside = record { below = rows_of-zero (array_bytes rows m) ∙ sym (filter_above 0 0 rows (omega arith) rising); ordered = unordered-zero (array_bytes rows m) }
+  pub reads : (n : ℕ) → n ≤ m → Reads sector rows m n
+  reads zero inside = record { below = rows_of-zero sector (array_bytes sector rows m) ∙ sym (filter_above 0 0 rows (omega arith) rising); ordered = unordered-zero sector (array_bytes sector rows m) }
   reads (suc n) inside = rw (← add-one n) (reads-more n (omega arith) (reads n (omega arith)) _ refl)
 
 -- an array that agrees below a slot, one slot more, and where it differs
-module _ (rows : List Row) (array : List ℕ) (n : ℕ) (front : take (128 * n) array ≡ array_bytes rows n) where
-  pub agrees-more : take (128 * n + 128 - 128 * n) (drop (128 * n) array) ≡ slot_bytes rows n → take (128 * (n + 1)) array ≡ array_bytes rows (n + 1)
+module _ (sector : ℕ) (rows : List Row) (array : List ℕ) (n : ℕ) (front : take (128 * n) array ≡ array_bytes sector rows n) where
+  pub agrees-more : take (128 * n + 128 - 128 * n) (drop (128 * n) array) ≡ slot_bytes sector rows n → take (128 * (n + 1)) array ≡ array_bytes sector rows (n + 1)
   agrees-more same =
       let next : 128 * (n + 1) ≡ 128 * n + 128 = omega arith in
       let width : 128 * n + 128 - 128 * n ≡ 128 = omega arith in
       ap (λ k. take k array) next ∙ take-add (128 * n) 128 array
-      ∙ rw (front, rw width at same) (array_bytes-more rows n)
+      ∙ rw (front, rw width at same) (array_bytes-more sector rows n)
 
-  pub agrees-entry : (m : ℕ) → n < m → 128 * n ≤ length array → length (slot_bytes rows n) ≡ 128 → array ≡ array_bytes rows m → take (128 * n + 128 - 128 * n) (drop (128 * n) array) ≡ slot_bytes rows n
+  pub agrees-entry : (m : ℕ) → n < m → 128 * n ≤ length array → length (slot_bytes sector rows n) ≡ 128 → array ≡ array_bytes sector rows m → take (128 * n + 128 - 128 * n) (drop (128 * n) array) ≡ slot_bytes sector rows n
   agrees-entry m below inside len same =
-      let from = array_bytes-from rows n m below in
-      range_here array (128 * n) 128 (slot_bytes rows n) from.0
+      let from = array_bytes-from sector rows n m below in
+      range_here array (128 * n) 128 (slot_bytes sector rows n) from.0
       (ap (drop (128 * n)) (same ∙ from.1)
-      ∙ drop_at (array_bytes rows n) (slot_bytes rows n ++ from.0) (128 * n) (ap length (sym front) ∙ length-take-le (128 * n) array inside)) len
+      ∙ drop_at (array_bytes sector rows n) (slot_bytes sector rows n ++ from.0) (128 * n) (ap length (sym front) ∙ length-take-le (128 * n) array inside)) len

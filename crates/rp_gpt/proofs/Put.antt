@@ -1,8 +1,8 @@
 -- Writes into a slice, one behind another.
-use Rattle.std.proofs.Common.{◌≡◌, ℕ, ◌+◌, ◌<◌, ◌≤◌, List, ◌++◌, length, take, get_or, ap, sym, ◌∙◌, arith}
+use Rattle.std.proofs.Common.{◌≡◌, ℕ, ◌+◌, ◌<◌, ◌≤◌, List, [], ◌∷◌, ◌++◌, length, take, get_or, ap, sym, ◌∙◌, arith}
 use borrow.Rule.Slice.PartMut.{put_mid}
-use Rattle.std.specs.List.{flat_map}
-use Rattle.std.proofs.lemmas.List.{flat_map_more, take_more, append_assoc}
+use Rattle.std.specs.List.{flat_map, concat}
+use Rattle.std.proofs.lemmas.List.{flat_map_more, take_more, append_assoc, append-nil}
 use Rattle.std.proofs.lemmas.Slice.{take-put_mid}
 use Rattle.rp_gpt.specs.Numbers.{u16_bytes, units_bytes}
 
@@ -18,3 +18,10 @@ units-more front units k below =
 -- five parts, one behind another
 pub five-joined : (a b c d e : List ℕ) → a ++ b ++ c ++ d ++ e ≡ a ++ (b ++ (c ++ (d ++ e)))
 five-joined a b c d e = simp append_assoc
+
+-- the fields of an entry, and of a header, one behind another
+pub six-joined : (a b c d e f : List ℕ) → a ++ b ++ c ++ d ++ e ++ f ≡ concat (a ∷ b ∷ c ∷ d ∷ e ∷ f ∷ [])
+six-joined a b c d e f = simp (append_assoc, append-nil)
+
+pub fourteen-joined : (a b c d e f g h i j k l m n : List ℕ) → a ++ b ++ c ++ d ++ e ++ f ++ g ++ h ++ i ++ j ++ k ++ l ++ m ++ n ≡ concat (a ∷ b ∷ c ∷ d ∷ e ∷ f ∷ g ∷ h ∷ i ∷ j ∷ k ∷ l ∷ m ∷ n ∷ [])
+fourteen-joined a b c d e f g h i j k l m n = simp (append_assoc, append-nil)

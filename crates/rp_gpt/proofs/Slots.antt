@@ -1,23 +1,23 @@
 -- The slots in use, one slot further, and at a slot that is out of order.
-use Rattle.std.proofs.Common.{◌≡◌, ℕ, zero, suc, ◌+◌, ◌-◌, ◌^◌, ◌<◌, ◌≤◌, true, false, cond, List, [], ◌∷◌, ◌++◌, Option, Some, None, Ok, inl, inr, refl, ap, ◌∙◌, arith}
-use Rattle.std.specs.Prelude.{IsTrue, filter}
+use Rattle.std.proofs.Common.{◌≡◌, ℕ, zero, suc, ◌+◌, ◌-◌, ◌*◌, ◌^◌, ◌<◌, ◌≤◌, true, false, cond, List, [], ◌∷◌, ◌++◌, Option, Some, None, refl, ap, ◌∙◌, arith}
+use Rattle.std.specs.Prelude.{IsTrue, Bool, not, filter}
+use Rattle.std.specs.Option.{option_or}
 use Rattle.std.specs.List.{range_with_len}
 use Rattle.std.proofs.Math.Nat.{suc-add, zero-add, add-zero}
-use Rattle.std.proofs.lemmas.Bool.{leb-true, ltb-true}
+use Rattle.std.proofs.lemmas.Bool.{leb-true}
 use Rattle.std.proofs.lemmas.List.{map-append, append-nil}
 use Rattle.std.proofs.lemmas.List.Elements.{filter-append}
 use Rattle.std.proofs.lemmas.List.Folds.{find-append}
 use Rattle.rp_base.specs.declared.table.Row.{Row}
-use Rattle.rp_base.specs.Answers.{Gives}
-use Rattle.rp_gpt.specs.declared.copy.CopyFault.TheVariants.{Memory}
+use Rattle.rp_base.specs.Geometry.{sector_units}
 use Rattle.rp_gpt.specs.Fields.{first_lba, last_lba}
-use Rattle.rp_gpt.specs.Copy.{entry_of, is_used, is_ordered, used_slots, rows_of, row_of, unordered_slot, unless_slot}
+use Rattle.rp_gpt.specs.Copy.{entry_of, is_used, is_ordered, used_slots, rows_of, row_of, unordered_slot}
 use Rattle.rp_gpt.proofs.Parts.{both}
 
 -- what the test of an entry's LBAs says
-pub ordered_bounds : (entry : List ℕ) → IsTrue (is_ordered entry) → (first_lba entry ≤ last_lba entry) × (last_lba entry < 2 ^ 35)
+pub ordered_bounds : (sector : ℕ) (entry : List ℕ) → IsTrue (is_ordered sector entry) → (first_lba entry ≤ last_lba entry) × (sector_units sector * (last_lba entry + 1) ≤ 2 ^ 35)
 unfolding is_ordered
-ordered_bounds entry h = let p = both _ _ h in (leb-true _ _ p.0, ltb-true _ _ p.1)
+ordered_bounds sector entry h = let p = both _ _ h in (leb-true _ _ p.0, leb-true _ _ p.1)
 
 -- n numbers and k more
 pub range_split : (a n k : ℕ) → range_with_len a (n + k) ≡ range_with_len a n ++ range_with_len (a + n) k
@@ -32,15 +32,24 @@ slots_split n m h =
     ap (range_with_len 0) e ∙ range_split 0 n (suc (m - n - 1)) ∙ ap (λ b. range_with_len 0 n ++ b ∷ range_with_len (b + 1) (m - n - 1)) (zero-add n)
 
 -- no slot
-pub rows_of-zero : (array : List ℕ) → rows_of array 0 ≡ []
+pub rows_of-zero : (sector : ℕ) (array : List ℕ) → rows_of sector array 0 ≡ []
 unfolding rows_of used_slots
-rows_of-zero array = refl
+rows_of-zero sector array = refl
 
-pub unordered-zero : (array : List ℕ) → unordered_slot array 0 ≡ None
+pub unordered-zero : (sector : ℕ) (array : List ℕ) → unordered_slot sector array 0 ≡ None
 unfolding unordered_slot used_slots
-unordered-zero array = refl
+unordered-zero sector array = refl
 
-module _ (array : List ℕ) (n : ℕ) where
+-- neither of two options is there
+no_or : {T : Type 0} (a b : Option T) → option_or a b ≡ None → b ≡ None
+no_or None b h = h
+no_or (Some x) b h = cc
+
+none_ordered : (ordered : Bool) (slot : ℕ) (rest : Option ℕ) → cond (not ordered) (Some slot) rest ≡ None → ordered ≡ true
+none_ordered true slot rest h = refl
+none_ordered false slot rest h = cc
+
+module _ (sector : ℕ) (array : List ℕ) (n : ℕ) where
   -- one slot more
   pub used_more : used_slots array (n + 1) ≡ used_slots array n ++ cond (is_used (entry_of array n)) (n ∷ []) []
   unfolding used_slots
@@ -48,30 +57,28 @@ module _ (array : List ℕ) (n : ℕ) where
       let test = λ (slot : ℕ). is_used (entry_of array slot) in
       ap (filter test) (range_split 0 n 1) ∙ filter-append test (range_with_len 0 n) (range_with_len (0 + n) 1) ∙ rw zero-add refl
 
-  pub rows_of-unused : is_used (entry_of array n) ≡ false → rows_of array (n + 1) ≡ rows_of array n
+  pub rows_of-unused : is_used (entry_of array n) ≡ false → rows_of sector array (n + 1) ≡ rows_of sector array n
   unfolding rows_of
   rows_of-unused h = rw (used_more, h, append-nil) refl
 
-  pub rows_of-used : is_used (entry_of array n) ≡ true → rows_of array (n + 1) ≡ rows_of array n ++ row_of (entry_of array n) n ∷ []
+  pub rows_of-used : is_used (entry_of array n) ≡ true → rows_of sector array (n + 1) ≡ rows_of sector array n ++ row_of sector (entry_of array n) n ∷ []
   unfolding rows_of
   rows_of-used h = rw (used_more, h) (map-append _ _ _)
 
-  pub unordered-unused : is_used (entry_of array n) ≡ false → unordered_slot array n ≡ None → unordered_slot array (n + 1) ≡ None
+  pub unordered-unused : is_used (entry_of array n) ≡ false → unordered_slot sector array n ≡ None → unordered_slot sector array (n + 1) ≡ None
   unfolding unordered_slot
   unordered-unused h e = rw (used_more, h, append-nil) e
 
-  pub unordered-used : is_used (entry_of array n) ≡ true → is_ordered (entry_of array n) ≡ true → unordered_slot array n ≡ None → unordered_slot array (n + 1) ≡ None
+  pub unordered-used : is_used (entry_of array n) ≡ true → is_ordered sector (entry_of array n) ≡ true → unordered_slot sector array n ≡ None → unordered_slot sector array (n + 1) ≡ None
   unfolding unordered_slot
   unordered-used h o e = rw (used_more, h, find-append, e, o) refl
 
   -- the first slot in use that is out of order
-  pub unordered-found : (m : ℕ) → n < m → is_used (entry_of array n) ≡ true → is_ordered (entry_of array n) ≡ false → unordered_slot array n ≡ None → unordered_slot array m ≡ Some n
+  pub unordered-found : (m : ℕ) → n < m → is_used (entry_of array n) ≡ true → is_ordered sector (entry_of array n) ≡ false → unordered_slot sector array n ≡ None → unordered_slot sector array m ≡ Some n
   unfolding unordered_slot used_slots
   unordered-found m below h o e = rw (slots_split n m below, filter-append, find-append, e, h, o) refl
 
--- rows that were read are those of the array, whose slots are in order
-pub ok_rows : (slot : Option ℕ) (all rows : List Row) → Gives Memory (unless_slot slot all) (Ok rows) → (slot ≡ None) × (rows ≡ all)
-ok_rows None all rows (inl e) = (refl, cc)
-ok_rows None all rows (inr e) = cc
-ok_rows (Some slot) all rows (inl e) = cc
-ok_rows (Some slot) all rows (inr e) = cc
+  -- where no slot is out of order, no used one is
+  pub ordered_at : (m : ℕ) → n < m → unordered_slot sector array m ≡ None → is_used (entry_of array n) ≡ true → is_ordered sector (entry_of array n) ≡ true
+  unfolding unordered_slot used_slots
+  ordered_at m below none used = none_ordered _ n _ (no_or _ _ (rw (slots_split n m below, filter-append, find-append, used) at none))

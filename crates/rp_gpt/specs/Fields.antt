@@ -19,11 +19,11 @@ header_crc header = u32_at header 16
 abbrev pub my_lba : List ℕ → ℕ
 my_lba header = u64_at header 24
 
-abbrev pub first_usable : List ℕ → ℕ
-first_usable header = u64_at header 40
+abbrev pub first_usable_lba : List ℕ → ℕ
+first_usable_lba header = u64_at header 40
 
-abbrev pub last_usable : List ℕ → ℕ
-last_usable header = u64_at header 48
+abbrev pub last_usable_lba : List ℕ → ℕ
+last_usable_lba header = u64_at header 48
 
 abbrev pub disk_guid : List ℕ → Guid
 disk_guid header = guid_at header 56

@@ -2,5 +2,4 @@ pub mod Numbers
 pub mod Fields
 pub mod Copy
 pub mod Mbr
-pub mod Name
 pub mod Shown

@@ -2,23 +2,14 @@ ghost use Rattle.std.specs.Prelude.{◌≡◌};
 
 use thiserror::Error;
 
-/// Which of the two copies of the table on a disk.
-#[derive(Clone, Copy, Debug, PartialEq, Eq)]
-pub enum Which {
-    /// At the disk's start: the header in LBA 1, the entries from LBA 2.
-    Primary,
-    /// At the disk's end: the entries in 32 sectors before the last, the header in the last.
-    Backup,
-}
-
-/// Why the bytes of a place are no copy: the first test that they fail.
+/// Why the bytes of a place are no copy: the first test that they fail. That order is an own one.
 #[derive(Clone, Copy, Debug, PartialEq, Eq, Error)]
 pub enum CopyFault {
     #[error("no GPT signature")]
     Signature,
     #[error("a revision other than 1.0")]
     Revision,
-    #[error("a header size out of 92 to 512")]
+    #[error("a header size below 92 or above a sector's")]
     HeaderSize,
     #[error("a wrong checksum of the header")]
     HeaderCrc,
@@ -26,11 +17,11 @@ pub enum CopyFault {
     Place,
     #[error("an array in another place")]
     ArrayPlace,
-    #[error("{count} entries of {size} bytes in place of 128 of 128")]
+    #[error("{count} entries of {size} bytes, which aren't those of the place")]
     Counts { count: u32, size: u32 },
     #[error("a wrong checksum of the array")]
     ArrayCrc,
-    #[error("slot {slot} ends before it starts, or past 2^35 sectors")]
+    #[error("slot {slot} ends before it starts, or past 2^44 bytes")]
     RowOrder { slot: u16 },
     #[error("out of memory")]
     Memory,

@@ -1,13 +1,13 @@
 //! The bytes of a copy, by the UEFI specification's tables 5-5 and 5-6.
 
-/// Bytes of a header's sector.
-pub const HEADER: usize = 512;
-
-/// Bytes of the array: 128 entries of 128 bytes.
-pub const ARRAY: usize = 16_384;
-
 /// Bytes of an entry.
 pub const ENTRY: usize = 128;
+
+/// The least number of entries that a table may have.
+pub const LEAST_ENTRIES: u16 = 128;
+
+/// The greatest number of entries that a table may have, an own limit.
+pub const MOST_ENTRIES: u16 = 1024;
 
 /// `EFI PART`.
 pub const EFI_PART: u64 = 0x5452_4150_2049_4645;
@@ -18,14 +18,11 @@ pub const REVISION_1: u32 = 0x0001_0000;
 /// Bytes of the header that the revision defines.
 pub const HEADER_SIZE_1: u32 = 92;
 
-/// The number of entries, as a header has it.
-pub const ENTRY_COUNT: u32 = 128;
-
 /// The size of an entry, as a header has it.
 pub const ENTRY_SIZE: u32 = 128;
 
-/// Sectors that an entry may reach: 2^44 bytes.
-pub const MOST_SECTORS: u64 = 1 << 35;
+/// Units of 512 bytes that an entry may reach: 2^44 bytes, an own limit.
+pub const MOST_UNITS: u64 = 1 << 35;
 
 pub mod header {
     //! Offsets in a header.

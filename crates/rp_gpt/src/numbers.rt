@@ -29,7 +29,8 @@ pub fn u32_at(bytes: &[u8], at: usize) -> u32
 #[tactic(auto, unfolding(crate::specs::Numbers::u64_at))]
 pub fn u64_at(bytes: &[u8], at: usize) -> u64
     requires { at + 8 ≤ length bytes.now }
-    ensures { result ≡ u64_at bytes.now at }
+    ensures value { result ≡ u64_at bytes.now at }
+    ensures fits { result < 2 ^ 64 }
 {
     let mut field = [0; 8];
     field.copy_from_slice(&bytes[at..at + 8]);
@@ -52,7 +53,9 @@ pub fn guid_at(bytes: &[u8], at: usize) -> Guid
 #[tactic(auto, unfolding(crate::specs::Numbers::units_at))]
 pub fn units_at(bytes: &[u8], at: usize) -> [u16; 36]
     requires { at + 72 ≤ length bytes.now }
-    ensures { result ≡ units_at bytes.now at 36 }
+    ensures value { result ≡ units_at bytes.now at 36 }
+    ensures len { length result ≡ 36 }
+    ensures fits { All (λ unit. unit < 2 ^ 16) result }
 {
     let mut units = [0; 36];
     for (k, unit) in units.iter_mut().enumerate() {

@@ -1,5 +1,5 @@
-use Rattle.rp_gpt.proofs.Primary.{answer-primary}
+use Rattle.rp_gpt.proofs.Laws.{answer-primary}
 use Rattle.rp_gpt.proofs.law.primary_has_no_size.Goals as goal
 
 pub returns : goal.returns
-returns c bytes sectors others = answer-primary bytes sectors others
+returns c = answer-primary

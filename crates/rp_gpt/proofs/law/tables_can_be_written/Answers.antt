@@ -2,4 +2,4 @@ use Rattle.rp_gpt.proofs.Writable.{answer-writable}
 use Rattle.rp_gpt.proofs.law.tables_can_be_written.Goals as goal
 
 pub returns : goal.returns
-returns c bytes which sectors table h = answer-writable bytes which sectors table h
+returns c = answer-writable
