@@ -153,10 +153,10 @@ other Backup = Primary
 unfoldable pub header_fields : Table → Which → ℕ → ℕ → ℕ → List ℕ
 header_fields table which sectors entries_crc own_crc =
     let units = sector_units table.sector in concat (
-      u64_bytes 0x5452415020494645 ∷ u32_bytes 0x00010000 ∷ u32_bytes 92 ∷ u32_bytes own_crc ∷ u32_bytes 0
-      ∷ u64_bytes (header_place which sectors) ∷ u64_bytes (header_place (other which) sectors)
-      ∷ u64_bytes (table.first / units) ∷ u64_bytes ((table.last + 1) / units - 1) ∷ guid_bytes table.disk
-      ∷ u64_bytes (array_place which table.sector table.entries sectors) ∷ u32_bytes table.entries ∷ u32_bytes 128 ∷ u32_bytes entries_crc ∷ [])
+    u64_bytes 0x5452415020494645 ∷ u32_bytes 0x00010000 ∷ u32_bytes 92 ∷ u32_bytes own_crc ∷ u32_bytes 0
+    ∷ u64_bytes (header_place which sectors) ∷ u64_bytes (header_place (other which) sectors)
+    ∷ u64_bytes (table.first / units) ∷ u64_bytes ((table.last + 1) / units - 1) ∷ guid_bytes table.disk
+    ∷ u64_bytes (array_place which table.sector table.entries sectors) ∷ u32_bytes table.entries ∷ u32_bytes 128 ∷ u32_bytes entries_crc ∷ [])
 
 -- the fields with their own checksum, which is over them with zeros in its place (UEFI 2.10, 5.3.2)
 unfoldable pub signed_fields : Table → Which → ℕ → ℕ → List ℕ
@@ -172,8 +172,8 @@ header_bytes table which sectors entries_crc = signed_fields table which sectors
 unfoldable pub row_bytes : ℕ → Row → List ℕ
 row_bytes sector row =
     let units = sector_units sector in concat (
-      guid_bytes row.kind ∷ guid_bytes row.id ∷ u64_bytes (row.start / units) ∷ u64_bytes ((row.start + row.size) / units - 1)
-      ∷ u64_bytes row.attrs ∷ units_bytes row.name ∷ [])
+    guid_bytes row.kind ∷ guid_bytes row.id ∷ u64_bytes (row.start / units) ∷ u64_bytes ((row.start + row.size) / units - 1)
+    ∷ u64_bytes row.attrs ∷ units_bytes row.name ∷ [])
 
 -- a slot's entry: that of its row, or zeros
 unfoldable pub slot_bytes : ℕ → List Row → ℕ → List ℕ

@@ -189,12 +189,7 @@ fn last_unit(lba: u64, sector: u32) -> u64
 }
 
 /// The rows of the used entries, which are in order.
-fn read_rows(
-    alloc: Global,
-    array: &[u8],
-    sector: u32,
-    entries: u16,
-) -> Result<List<Row>, Memory>
+fn read_rows(alloc: Global, array: &[u8], sector: u32, entries: u16) -> Result<List<Row>, Memory>
     requires sector { IsSector sector }
     requires length { length array.now ≡ 128 * entries }
     requires ordered { unordered_slot_of sector array.now entries ≡ None }

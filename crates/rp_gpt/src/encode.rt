@@ -7,9 +7,7 @@ ghost use Rattle.rp_base.specs.Table.{IsWhole, IsWritable, RowFits, TableFits};
 ghost use Rattle.rp_crc.specs.Crc.{crc};
 ghost use Rattle.rp_gpt.specs.Copy.{ReadsBack, header_fields as header_fields_of, signed_fields as signed_fields_of, count_below, header_bytes, row_bytes as row_bytes_of, slot_bytes, table_entries, table_array, exact};
 
-use crate::layout::{
-    EFI_PART, ENTRY, ENTRY_SIZE, HEADER_SIZE_1, REVISION_1, entry, header,
-};
+use crate::layout::{EFI_PART, ENTRY, ENTRY_SIZE, HEADER_SIZE_1, REVISION_1, entry, header};
 use crate::numbers::{put_bytes, put_guid, put_u32, put_u64, put_units};
 use crate::places::{crc_of, other};
 use rp_base::{Row, Table, Which, array_place, header_place, sector_units};
@@ -27,7 +25,11 @@ fn row_bytes(row: &Row, sector: u32) -> [u8; 128]
     put_guid(&mut bytes, entry::TYPE, row.kind);
     put_guid(&mut bytes, entry::UNIQUE, row.id);
     put_u64(&mut bytes, entry::FIRST_LBA, row.start / units);
-    put_u64(&mut bytes, entry::LAST_LBA, (row.start + row.size) / units - 1);
+    put_u64(
+        &mut bytes,
+        entry::LAST_LBA,
+        (row.start + row.size) / units - 1,
+    );
     put_u64(&mut bytes, entry::ATTRIBUTES, row.attrs);
     put_units(&mut bytes, entry::NAME, &row.name);
     bytes
@@ -118,13 +120,7 @@ pub fn signed_fields(table: &Table, which: Which, sectors: u64, entries_crc: u32
 
 /// The header's sector.
 #[tactic(auto, unfolding(crate::specs::Copy::header_bytes))]
-fn write_header(
-    table: &Table,
-    which: Which,
-    sectors: u64,
-    entries_crc: u32,
-    out: &mut [u8],
-)
+fn write_header(table: &Table, which: Which, sectors: u64, entries_crc: u32, out: &mut [u8])
     requires length { length out.old ≡ table.now.sector }
     requires writable { IsWritable table.now }
     requires room { least_sectors table.now.sector table.now.entries ≤ sectors }

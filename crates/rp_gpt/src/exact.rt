@@ -35,13 +35,7 @@ fn is_array(table: &Table, array: &[u8]) -> bool
 }
 
 /// Whether a sector is the header of the exact copy.
-fn is_header(
-    table: &Table,
-    which: Which,
-    sectors: u64,
-    entries_crc: u32,
-    header: &[u8],
-) -> bool
+fn is_header(table: &Table, which: Which, sectors: u64, entries_crc: u32, header: &[u8]) -> bool
     requires length { length header.now ≡ table.now.sector }
     requires writable { IsWritable table.now }
     requires room { least_sectors table.now.sector table.now.entries ≤ sectors }

@@ -25,3 +25,5 @@ pub use places::entries_of;
 pub use rp_base::{Which, copy_bytes, name_units};
 pub use table_fault::{Empty, TableFault};
 
+#[cfg(test)]
+mod tests;
