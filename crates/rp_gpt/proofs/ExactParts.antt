@@ -1,13 +1,12 @@
 -- An exact copy by its parts.
-use Rattle.std.proofs.Common.{◌≡◌, ℕ, ◌+◌, ◌-◌, ◌*◌, ◌≤◌, List, ◌++◌, length, take, drop, replicate, sym, ap, ap₂, ◌∙◌, arith, take-append-drop}
+use Rattle.std.proofs.Common.{◌≡◌, ℕ, ◌-◌, ◌≤◌, List, ◌++◌, length, take, drop, replicate, sym, ap, ap₂, ◌∙◌, arith, take-append-drop}
 use Rattle.std.proofs.lemmas.List.{take_at, drop_at, length-append, length-replicate, length-drop}
 use Rattle.rp_crc.specs.Crc.{crc}
-use Rattle.rp_base.specs.Geometry.{array_sectors, copy_bytes}
-use Rattle.rp_base.specs.Table.{IsWritable, TableFits}
+use Rattle.rp_base.specs.Table.{IsWritable}
 use Rattle.rp_base.specs.declared.geometry.Which.{Which}
 use Rattle.rp_base.specs.declared.geometry.Which.TheVariants.{Primary, Backup}
 use Rattle.rp_base.specs.declared.table.Table.{Table}
-use Rattle.rp_gpt.specs.Copy.{in_place, header_of, array_of, entry_bytes, header_bytes, table_entries, table_array, exact}
+use Rattle.rp_gpt.specs.Copy.{in_place, header_of, array_of, header_bytes, table_entries, table_array, exact}
 use Rattle.rp_gpt.proofs.Sectors.{sector_least}
 use Rattle.rp_gpt.proofs.Header.{length-header_bytes}
 use Rattle.rp_gpt.proofs.ReadsBack.{header_of-in_place, array_of-in_place}

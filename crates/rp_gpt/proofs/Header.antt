@@ -1,7 +1,6 @@
 -- The header of an exact copy reads back.
 use Rattle.std.proofs.Common.{◌≡◌, ℕ, ◌+◌, ◌-◌, ◌/◌, ◌^◌, ◌<◌, ◌≤◌, List, ◌++◌, length, drop, replicate, refl, ap, ◌∙◌, arith}
 use Rattle.std.proofs.lemmas.List.{length-append, length-replicate, append-nil, append_assoc, take_at, drop_at}
-use Rattle.rp_crc.specs.Crc.{crc}
 use Rattle.rp_base.specs.declared.table.Table.{Table}
 use Rattle.rp_base.specs.Geometry.{sector_units, header_place, array_place}
 use Rattle.rp_base.specs.declared.geometry.Which.{Which}

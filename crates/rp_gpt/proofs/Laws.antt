@@ -1,5 +1,5 @@
 -- What an answer depends on.
-use Rattle.std.proofs.Common.{◌≡◌, ◌≢◌, ℕ, List, length, Err, refl, sym, ap, ne_eqb}
+use Rattle.std.proofs.Common.{◌≡◌, ◌≢◌, ℕ, List, length, Err, refl, ne_eqb}
 use Rattle.rp_base.specs.declared.geometry.Which.{Which}
 use Rattle.rp_base.specs.declared.geometry.Which.TheVariants.{Primary}
 use Rattle.rp_gpt.specs.declared.copy.CopyFault.TheVariants.{Signature}

@@ -1,13 +1,13 @@
 -- The exact copy of a table reads back.
-use Rattle.std.proofs.Common.{◌≡◌, ℕ, ◌+◌, ◌-◌, ◌*◌, ◌/◌, ◌^◌, ◌<◌, ◌≤◌, None, Ok, List, ◌++◌, length, take, replicate, refl, sym, ap, ◌∙◌, arith}
+use Rattle.std.proofs.Common.{◌≡◌, ℕ, ◌+◌, ◌-◌, ◌*◌, ◌^◌, ◌<◌, ◌≤◌, List, length, replicate, refl, sym, ap, ◌∙◌, arith}
 use Rattle.std.proofs.lemmas.List.{take_at, drop_at, length-append, length-replicate}
 use Rattle.rp_crc.specs.Crc.{crc, inverted}
-use Rattle.rp_base.specs.Geometry.{IsSector, array_sectors, copy_bytes, least_sectors, sector_units}
+use Rattle.rp_base.specs.Geometry.{array_sectors, copy_bytes}
 use Rattle.rp_base.specs.Table.{IsWritable, TableFits}
 use Rattle.rp_base.specs.declared.geometry.Which.{Which}
 use Rattle.rp_base.specs.declared.geometry.Which.TheVariants.{Primary, Backup}
 use Rattle.rp_base.specs.declared.table.Table.{Table}
-use Rattle.rp_gpt.specs.Copy.{in_place, header_of, array_of, entry_bytes, header_fields, signed_fields, header_bytes, table_entries, table_array, exact, summed, table_of, rows_of, unordered_slot, ReadsBack}
+use Rattle.rp_gpt.specs.Copy.{in_place, header_of, array_of, entry_bytes, header_fields, signed_fields, header_bytes, table_entries, table_array, exact, summed, table_of, rows_of, ReadsBack}
 use Rattle.rp_gpt.proofs.Sectors.{sector_least, array_room, copy_bytes-is, first_back, last_back, first_fits, last_fits}
 use Rattle.rp_gpt.proofs.Passes.{Passes, IsReadAs, no_fault, chosen-is, answer-table}
 use Rattle.rp_gpt.proofs.Header.{HoldsTable, HeaderFits, header_fields-hold, summed-header_fields, length-header_bytes}

@@ -1,5 +1,5 @@
 -- Numbers of units and of sectors, by the two sizes of a sector.
-use Rattle.std.proofs.Common.{◌≡◌, ℕ, ◌+◌, ◌-◌, ◌*◌, ◌/◌, ◌%◌, ◌^◌, ◌<◌, ◌≤◌, min, inl, inr, sym, subst, arith}
+use Rattle.std.proofs.Common.{◌≡◌, ℕ, ◌+◌, ◌-◌, ◌*◌, ◌/◌, ◌^◌, ◌<◌, ◌≤◌, inl, inr, sym, subst, arith}
 use Rattle.rp_base.specs.Geometry.{IsSector, AreEntries, sector_units, array_sectors, copy_bytes, least_sectors}
 use Rattle.rp_base.specs.Table.{IsWhole}
 use Rattle.rp_gpt.specs.Copy.{saturated}

@@ -8,7 +8,6 @@ use Rattle.std.proofs.lemmas.Bool.{leb-true}
 use Rattle.std.proofs.lemmas.List.{map-append, append-nil}
 use Rattle.std.proofs.lemmas.List.Elements.{filter-append}
 use Rattle.std.proofs.lemmas.List.Folds.{find-append}
-use Rattle.rp_base.specs.declared.table.Row.{Row}
 use Rattle.rp_base.specs.Geometry.{sector_units}
 use Rattle.rp_gpt.specs.Fields.{first_lba, last_lba}
 use Rattle.rp_gpt.specs.Copy.{entry_of, is_used, is_ordered, used_slots, rows_of, row_of, unordered_slot}

@@ -1,5 +1,5 @@
 -- A table that is read can be written.
-use Rattle.std.proofs.Common.{◌≡◌, ℕ, suc, zero, ◌+◌, ◌-◌, ◌^◌, ◌<◌, ◌≤◌, Bool, true, false, eqb, List, [], ◌∷◌, ◌++◌, length, Option, Some, None, Ok, refl, sym, ap, ◌∙◌, arith}
+use Rattle.std.proofs.Common.{◌≡◌, ℕ, suc, zero, ◌+◌, ◌-◌, ◌^◌, ◌<◌, ◌≤◌, Bool, true, false, eqb, List, [], ◌∷◌, ◌++◌, length, None, Ok, refl, sym, ap, ◌∙◌, arith}
 use Rattle.std.specs.Prelude.{not, All, AllPairs}
 use Rattle.std.proofs.Math.Numerals.{add-one}
 use Rattle.std.proofs.lemmas.Bool.{false≢true}
@@ -14,7 +14,7 @@ use Rattle.rp_base.specs.declared.table.Table.{Table}
 use Rattle.rp_gpt.specs.Copy.{IsPlace, header_of, array_of, entry_bytes, chosen_entries, entry_of, is_used, is_ordered, used_slots, rows_of, row_of, unordered_slot, table_of, answer}
 use Rattle.rp_gpt.proofs.Parts.{all_from_zeros}
 use Rattle.rp_gpt.proofs.Sectors.{units_whole, first_whole, last_whole}
-use Rattle.rp_gpt.proofs.Slots.{ordered_bounds, ordered_at, used_more, rows_of-used, rows_of-unused}
+use Rattle.rp_gpt.proofs.Slots.{ordered_bounds, ordered_at, rows_of-used, rows_of-unused}
 use Rattle.rp_gpt.proofs.Chosen.{chosen-place}
 use Rattle.rp_gpt.proofs.Passes.{IsReadAs, answer-ok}
 

@@ -1,6 +1,6 @@
 -- One copy of the table: a header in one sector, and an array of entries of 128 bytes in whole sectors beside it (UEFI 2.10,
 -- 5.3.1 to 5.3.3). Numbers of a table are units of 512 bytes, those of a copy are sectors.
-use Rattle.std.specs.Prelude.{ℕ, ◌≡◌, ◌+◌, ◌*◌, ◌-◌, ◌/◌, ◌^◌, ◌<◌, ◌≤◌, min, List, [], ◌∷◌, ◌++◌, length, Bool, not, ◌&&◌, ◌==◌, nat_le, nat_lt, if◌then◌else◌, take, drop, replicate, map, filter, find, slice_range, unwrap_or, Option, Some, None, Result, Ok, Err}
+use Rattle.std.specs.Prelude.{ℕ, ◌≡◌, ◌+◌, ◌*◌, ◌-◌, ◌/◌, ◌^◌, ◌≤◌, min, List, [], ◌∷◌, ◌++◌, length, Bool, not, ◌&&◌, ◌==◌, nat_le, nat_lt, if◌then◌else◌, take, drop, replicate, map, filter, find, slice_range, unwrap_or, Option, Some, None, Result, Ok, Err}
 use Rattle.std.specs.Option.{option_map_or}
 use Rattle.std.specs.List.{range_with_len, list_all, concat, flat_map}
 use Rattle.rp_crc.specs.Crc.{crc}

@@ -1,4 +1,4 @@
-use Rattle.std.proofs.Common.{◌≡◌, Ok, inl, refl, sym, ap, ◌∙◌, length-take-le, arith}
+use Rattle.std.proofs.Common.{◌≡◌, Ok, inl, refl, sym, ◌∙◌, length-take-le}
 use Rattle.rp_gpt.specs.Copy.{answer}
 use Rattle.rp_gpt.proofs.Chosen.{chosen-read, entries_inside}
 use Rattle.rp_gpt.proofs.Passes.{read_parts, answer-fault, answer-slot, answer-table}

@@ -1,7 +1,6 @@
-use Rattle.std.proofs.Common.{◌≡◌, ◌*◌, ◌+◌, ◌-◌, sym, ap, ap₂, ◌∙◌, refl, arith}
-use Rattle.rp_gpt.specs.Fields.{first_lba, last_lba}
+use Rattle.std.proofs.Common.{refl, arith}
 use Rattle.rp_gpt.specs.Copy.{row_of}
-use Rattle.rp_gpt.proofs.Sectors.{AreUnits, ordered_units}
+use Rattle.rp_gpt.proofs.Sectors.{ordered_units}
 use Rattle.rp_gpt.proofs.Slots.{ordered_bounds}
 use Rattle.rp_gpt.proofs.decode.read_row.Goals as goal
 

@@ -1,7 +1,7 @@
-use Rattle.std.proofs.Common.{◌≡◌, true, false, refl, subst, sym, All, arith}
+use Rattle.std.proofs.Common.{◌≡◌, true, false, arith}
 use Rattle.std.proofs.lemmas.List.Elements.{All-nil, All-push}
 use Rattle.rp_base.specs.Table.{RowFits}
-use Rattle.rp_gpt.specs.Copy.{entry_of, is_used, rows_of, used_slots}
+use Rattle.rp_gpt.specs.Copy.{entry_of, is_used}
 use Rattle.rp_gpt.proofs.Slots.{ordered_at, rows_of-zero, rows_of-used, rows_of-unused}
 use Rattle.rp_gpt.proofs.decode.read_rows.Goals as goal
 use Rattle.rp_gpt.proofs.decode.read_rows.Goals.{then-is_used+in_ok-push, else-is_used}

@@ -1,6 +1,5 @@
-use Rattle.std.proofs.Common.{◌≡◌, None, Some, get_or, find, eqb, sym, ◌∙◌, arith}
+use Rattle.std.proofs.Common.{◌≡◌, None, find, eqb, sym, ◌∙◌, arith}
 use Rattle.rp_base.specs.declared.table.Row.{Row}
-use Rattle.rp_gpt.specs.Copy.{slot_bytes}
 use Rattle.rp_gpt.proofs.Rising.{Rising-from, found_here, none_past, none_here, more_found, more_none}
 use Rattle.rp_gpt.proofs.Entries.{slot_bytes-some, slot_bytes-none}
 use Rattle.rp_gpt.proofs.encode.entry_at.Goals as goal

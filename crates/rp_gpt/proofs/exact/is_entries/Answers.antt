@@ -1,6 +1,6 @@
 use Rattle.std.proofs.Common.{◌≡◌, ◌*◌, length, sym, refl, ◌∙◌, ap, take_all, arith}
 use Rattle.std.proofs.lemmas.Bool.{false≢true}
-use Rattle.rp_gpt.specs.Copy.{array_bytes, slot_bytes}
+use Rattle.rp_gpt.specs.Copy.{array_bytes}
 use Rattle.rp_gpt.proofs.Entries.{array_bytes-none, agrees-more, agrees-entry}
 use Rattle.rp_gpt.proofs.Rising.{none_below}
 use Rattle.rp_gpt.proofs.exact.is_entries.Goals as goal

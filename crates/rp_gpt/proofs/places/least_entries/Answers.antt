@@ -1,4 +1,4 @@
-use Rattle.std.proofs.Common.{◌≡◌, ◌+◌, ◌-◌, None, true, false, refl, ap, sym, ◌∙◌, arith}
+use Rattle.std.proofs.Common.{◌≡◌, ◌+◌, ◌-◌, true, false, ap, sym, ◌∙◌, arith}
 use Rattle.rp_gpt.specs.Copy.{is_place, least_from}
 use Rattle.rp_gpt.proofs.Chosen.{least_from-none, least_from-more, least_from-found}
 use Rattle.rp_gpt.proofs.places.least_entries.Goals as goal
