@@ -14,3 +14,9 @@ pub mod ReadsBack
 pub mod ExactParts
 pub mod Laws
 pub mod Rows
+pub mod ImagePlaces
+pub mod AnswerRead
+pub mod InPlace
+pub mod Accepted
+pub mod ExactPlaces
+pub mod MbrStates

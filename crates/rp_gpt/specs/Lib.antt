@@ -3,3 +3,4 @@ pub mod Fields
 pub mod Copy
 pub mod Mbr
 pub mod Shown
+pub mod Accepted

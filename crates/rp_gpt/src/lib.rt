@@ -10,6 +10,7 @@ mod layout;
 mod mbr;
 mod numbers;
 mod places;
+mod seen_law;
 mod table_fault;
 
 pub use copy::CopyFault;
@@ -23,6 +24,9 @@ pub use law::{
 pub use mbr::{foreign_type, mbr_bytes, mbr_state};
 pub use places::entries_of;
 pub use rp_base::{Which, copy_bytes, name_units};
+pub use seen_law::{
+    accepted_is_seen, exact_mbr_is_same, exact_places_are_accepted, foreign_has_no_size,
+};
 pub use table_fault::{Empty, TableFault};
 
 #[cfg(test)]
