@@ -5,7 +5,7 @@ use Rattle.std.specs.Option.{option_or}
 use Rattle.std.proofs.lemmas.List.{drop_all}
 use Rattle.rp_base.specs.declared.table.Row.{Row}
 use Rattle.rp_base.specs.declared.table.Table.{Table}
-use Rattle.rp_gpt.specs.Shown.{row_outside, share_sector, overlap}
+use Rattle.rp_gpt.specs.Shown.{row_outside, share_unit, overlap}
 
 -- the element at a place, and those behind it
 drop_at : {X : Type 0} (xs : List X) (i : ℕ) (d : X) → i < length xs → drop i xs ≡ get_or xs i d ∷ drop (i + 1) xs
@@ -21,7 +21,7 @@ outside_from-zero table = refl
 
 -- a row that shares no sector with a later one is passed over, one that does is found
 module _ (rows : List Row) (i : ℕ) (d : Row) (inside : i < length rows) where
-  pub overlap_past : option_map (λ other. other.slot) (find (share_sector (get_or rows i d)) (drop (i + 1) rows)) ≡ None → overlap (drop i rows) ≡ overlap (drop (i + 1) rows)
+  pub overlap_past : option_map (λ other. other.slot) (find (share_unit (get_or rows i d)) (drop (i + 1) rows)) ≡ None → overlap (drop i rows) ≡ overlap (drop (i + 1) rows)
   unfolding overlap
   overlap_past none = rw (drop_at rows i d inside) (without _ _ none)
     where
@@ -29,7 +29,7 @@ module _ (rows : List Row) (i : ℕ) (d : Row) (inside : i < length rows) where
       without None rest none = refl
       without (Some later) rest none = cc
 
-  pub overlap_here : (slot : ℕ) → option_map (λ other. other.slot) (find (share_sector (get_or rows i d)) (drop (i + 1) rows)) ≡ Some slot
+  pub overlap_here : (slot : ℕ) → option_map (λ other. other.slot) (find (share_unit (get_or rows i d)) (drop (i + 1) rows)) ≡ Some slot
       → option_map {U = ℕ × ℕ} (λ pair. (pair.0.slot, pair.1.slot)) (overlap (drop i rows)) ≡ Some ((get_or rows i d).slot, slot)
   unfolding overlap
   overlap_here slot some = rw (drop_at rows i d inside) (found _ _ some)

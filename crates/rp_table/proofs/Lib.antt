@@ -1,6 +1,6 @@
 mod FromPlace
-mod InPlace
 mod Judging
 mod Reading
+mod Saying
 mod Shared
 mod Slots

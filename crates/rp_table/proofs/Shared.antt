@@ -1,4 +1,4 @@
--- Rows share a sector exactly where their spans, by rising first sector, aren't chained.
+-- Rows share a unit exactly where their spans, by rising first unit, aren't chained.
 use Rattle.std.proofs.Common.{◌≡◌, ℕ, ◌+◌, ◌<◌, ◌≤◌, suc, Bool, true, false, cond, List, [], ◌∷◌, length, map, max, Option, Some, None, All, AllPairs, drop, refl, sym, ap, ◌∙◌, inl, inr, arith}
 use Rattle.std.specs.Prelude.{◌&&◌, not, IsTrue, IsSome, nat_lt, nat_le, find, sum_by}
 use Rattle.std.specs.List.Sorted.{IsPermutation, IsNonDecreasingBy}
@@ -10,16 +10,16 @@ use Rattle.std.proofs.lemmas.List.Sums.{sum_by-cons}
 use Rattle.std.proofs.lemmas.List.Sorted.{All-permutation, sum_by-IsPermutation}
 use Rattle.std.proofs.lemmas.List.Elements.{All-nil, All-cons}
 use Rattle.rp_base.specs.declared.table.Row.{Row}
-use Rattle.rp_base.specs.Table.{IsWritableRow}
-use Rattle.rp_gpt.specs.Shown.{share_sector, overlap}
-use Rattle.rp_table.specs.Spans.{IsChained, span_of}
-use Rattle.rp_table.proofs.InPlace.{IsApart, all_apart}
+use Rattle.rp_base.specs.Table.{AreApart}
+use Rattle.rp_gpt.specs.Shown.{share_unit, overlap}
+use Rattle.rp_gpt.proofs.InPlace.{all_apart}
+use Rattle.rp_table.specs.Spans.{IsChained, IsSpan, span_of}
 
--- how many sectors of a span are this one: one, or none
+-- how many units of a span are this one: one, or none
 abbrev covers : ℕ → ℕ × ℕ → ℕ
 covers x span = cond (nat_le span.0 x && nat_lt x span.1) 1 0
 
--- how many spans have this sector
+-- how many spans have this unit
 abbrev covered : ℕ → List (ℕ × ℕ) → ℕ
 covered x spans = sum_by (covers x) spans
 
@@ -38,7 +38,7 @@ covers_above x span high = grind (arith, nat_tests)
 covers_most : (x : ℕ) (span : ℕ × ℕ) → covers x span ≤ 1
 covers_most x span = grind (arith, nat_tests)
 
--- spans have sectors
+-- spans have units
 abbrev AllSized : List (ℕ × ℕ) → Type 0
 AllSized [] = Unit {0}
 AllSized (span ∷ spans) = (span.0 < span.1) × AllSized spans
@@ -47,7 +47,7 @@ all_sized : (spans : List (ℕ × ℕ)) → All (λ (span : ℕ × ℕ). span.0 
 all_sized [] all = tt
 all_sized (span ∷ spans) all = (all 0 span (omega arith), all_sized spans (λ k d inside. all (suc k) d (omega arith)))
 
--- each sector is in one span at most, and none before the first that they may begin at
+-- each unit is in one span at most, and none before the first that they may begin at
 abbrev IsApartFrom : ℕ → List (ℕ × ℕ) → Type 0
 IsApartFrom low spans = (x : ℕ) → (covered x spans ≤ 1) × (x < low → covered x spans ≡ 0)
 
@@ -74,8 +74,8 @@ apart_chained low (span ∷ spans) sized chained = λ x.
           let here = covers_above x span (ltb-false x span.1 is) in
           omega (arith, step, here, later.0)
 
--- two rows that share a sector have the greater of their starts
-shared_at : (a b : Row) → a.start < a.start + a.size → b.start < b.start + b.size → share_sector a b ≡ true
+-- two rows that share a unit have the greater of their starts
+shared_at : (a b : Row) → a.start < a.start + a.size → b.start < b.start + b.size → share_unit a b ≡ true
     → (covers (max a.start b.start) (span_of a) ≡ 1) × (covers (max a.start b.start) (span_of b) ≡ 1)
 shared_at a b a_sized b_sized is =
     let under : a.start < b.start + b.size = grind (arith, nat_tests, is) in
@@ -83,11 +83,11 @@ shared_at a b a_sized b_sized is =
     (covers_in (max a.start b.start) (span_of a) (omega arith) (omega arith), covers_in (max a.start b.start) (span_of b) (omega arith) (omega arith))
 
 none_found : (row : Row) (rows : List Row) → row.start < row.start + row.size → AllSized (map span_of rows) → ((x : ℕ) → covers x (span_of row) + covered x (map span_of rows) ≤ 1)
-    → find (share_sector row) rows ≡ None
+    → find (share_unit row) rows ≡ None
 none_found row [] here sized most = refl
 none_found row (y ∷ ys) here sized most =
-    by_test (share_sector row y) refl (none_found row ys here sized.1 (λ x. let step = covered-cons x (span_of y) (map span_of ys) in omega (arith, most x, step))) where
-      by_test : (b : Bool) → share_sector row y ≡ b → find (share_sector row) ys ≡ None → cond b (Some y) (find (share_sector row) ys) ≡ None
+    by_test (share_unit row y) refl (none_found row ys here sized.1 (λ x. let step = covered-cons x (span_of y) (map span_of ys) in omega (arith, most x, step))) where
+      by_test : (b : Bool) → share_unit row y ≡ b → find (share_unit row) ys ≡ None → cond b (Some y) (find (share_unit row) ys) ≡ None
       by_test true is rest =
           let both = shared_at row y here sized.0 is in
           let step = covered-cons (max row.start y.start) (span_of y) (map span_of ys) in
@@ -98,22 +98,22 @@ none_share : (rows : List Row) → AllSized (map span_of rows) → ((x : ℕ) �
 unfolding overlap
 none_share [] sized most = refl
 none_share (row ∷ rows) sized most =
-    let found : find (share_sector row) rows ≡ None = none_found row rows sized.0 sized.1 (λ x. let step = covered-cons x (span_of row) (map span_of rows) in omega (arith, most x, step)) in
+    let found : find (share_unit row) rows ≡ None = none_found row rows sized.0 sized.1 (λ x. let step = covered-cons x (span_of row) (map span_of rows) in omega (arith, most x, step)) in
     rw found (none_share rows sized.1 (λ x. let step = covered-cons x (span_of row) (map span_of rows) in omega (arith, most x, step)))
 
--- a sector of a row is in no row apart from it
-apart_covered : (row : Row) (rows : List Row) (x : ℕ) → row.start ≤ x → x < row.start + row.size → All (IsApart row) rows → covered x (map span_of rows) ≡ 0
+-- a unit of a row is in no row apart from it
+apart_covered : (row : Row) (rows : List Row) (x : ℕ) → row.start ≤ x → x < row.start + row.size → All (AreApart row) rows → covered x (map span_of rows) ≡ 0
 apart_covered row [] x low high apart = refl
 apart_covered row (y ∷ ys) x low high apart =
     let rest = apart_covered row ys x low high (λ k d inside. apart (suc k) d (omega arith)) in
     let step = covered-cons x (span_of y) (map span_of ys) in
     let here = outside (apart 0 y (omega arith)) in
     omega (arith, rest, step, here) where
-      outside : IsApart row y → covers x (span_of y) ≡ 0
+      outside : AreApart row y → covers x (span_of y) ≡ 0
       outside (inl before) = covers_below x (span_of y) (omega arith)
       outside (inr behind) = covers_above x (span_of y) (omega arith)
 
-pairs_covered : (rows : List Row) (x : ℕ) → AllPairs IsApart rows → covered x (map span_of rows) ≤ 1
+pairs_covered : (rows : List Row) (x : ℕ) → AllPairs AreApart rows → covered x (map span_of rows) ≤ 1
 pairs_covered [] x apart = omega arith
 pairs_covered (row ∷ rows) x apart =
     by_start (pairs_covered rows x (λ i j d before inside. apart (suc i) (suc j) d (omega arith) (omega arith))) (nat_le row.start x) refl (nat_lt x (row.start + row.size)) refl where
@@ -126,7 +126,7 @@ pairs_covered (row ∷ rows) x apart =
           let step = covered-cons x (span_of row) (map span_of rows) in let most = covers_most x (span_of row) in
           let none = apart_covered row rows x (leb-true row.start x b_is) (ltb-true x (row.start + row.size) c_is) (λ k d inside. apart 0 (suc k) d (omega arith) (omega arith)) in omega (arith, none, step, most)
 
--- rising spans that have no sector twice are chained
+-- rising spans that have no unit twice are chained
 chained_behind : (span : ℕ × ℕ) (spans : List (ℕ × ℕ)) → AllSized (span ∷ spans) → IsNonDecreasingBy (λ (s : ℕ × ℕ). s.0) (span ∷ spans) → ((x : ℕ) → covered x (span ∷ spans) ≤ 1) → IsChained span.1 spans
 chained_behind span [] sized rising most = tt
 chained_behind span (next ∷ rest) sized rising most = (
@@ -147,12 +147,12 @@ chained : (spans : List (ℕ × ℕ)) → AllSized spans → IsNonDecreasingBy (
 chained [] sized rising most = tt
 chained (span ∷ spans) sized rising most = (omega arith, chained_behind span spans sized rising most)
 
-spans_sized : (rows : List Row) → All IsWritableRow rows → All (λ (span : ℕ × ℕ). span.0 < span.1) (map span_of rows)
+spans_sized : (rows : List Row) → All IsSpan rows → All (λ (span : ℕ × ℕ). span.0 < span.1) (map span_of rows)
 spans_sized [] all = All-nil _
 spans_sized (row ∷ rows) all =
     All-cons (λ (span : ℕ × ℕ). span.0 < span.1) (span_of row) (map span_of rows) (let size = (all 0 row (omega arith)).size in omega (arith, size)) (spans_sized rows (λ k d inside. all (suc k) d (omega arith)))
 
-module _ (rows : List Row) (spans : List (ℕ × ℕ)) (all : All IsWritableRow rows) (same : IsPermutation (map span_of rows) spans) where
+module _ (rows : List Row) (spans : List (ℕ × ℕ)) (all : All IsSpan rows) (same : IsPermutation (map span_of rows) spans) where
   sorted_sized : AllSized spans
   sorted_sized = all_sized spans (All-permutation (λ (span : ℕ × ℕ). span.0 < span.1) (map span_of rows) spans same (spans_sized rows all))
 

@@ -8,10 +8,10 @@ slot_least : (rows : List Row) → AllPairs (λ (a b : Row). a.slot < b.slot) ro
 slot_least rows rising zero d inside = omega arith
 slot_least rows rising (suc k) d inside = let before = slot_least rows rising k d (omega arith) in let step = rising k (suc k) d (omega arith) inside in omega (arith, before, step)
 
--- a table that can be written has at most 128 rows
-pub few_rows : (rows : List Row) → All IsWritableRow rows → AllPairs (λ (a b : Row). a.slot < b.slot) rows → length rows ≤ 128
-few_rows [] all rising = omega arith
-few_rows (row ∷ rows) all rising =
+-- a table that can be written has at most as many rows as entries
+pub few_rows : (sector entries : ℕ) (rows : List Row) → All (IsWritableRow sector entries) rows → AllPairs (λ (a b : Row). a.slot < b.slot) rows → length rows ≤ entries
+few_rows sector entries [] all rising = omega arith
+few_rows sector entries (row ∷ rows) all rising =
     let least = slot_least (row ∷ rows) rising (length rows) row (omega arith) in
     let most = (all (length rows) row (omega arith)).slot in
     omega (arith, least, most)

@@ -1,39 +1,65 @@
 //! What is read of an image.
 
-ghost use Rattle.std.specs.Prelude.{◌≡◌, ◌≢◌, ◌⊎◌, ◌≤◌, ◌*◌, ◌^◌, IfSome, IfOk, Err, length};
+ghost use Rattle.std.specs.Prelude.{◌≡◌, ◌≢◌, ◌⊎◌, ◌≤◌, ◌+◌, ◌*◌, ◌/◌, ◌%◌, ◌==◌, ◌&&◌, nat_le, IfSome, IfOk, IfErr, Err, length};
 ghost use Rattle.rp_base.specs.Answers.{Gives};
-ghost use Rattle.rp_base.specs.Faults.{Rose, HasCause};
-ghost use Rattle.rp_base.specs.Table.{IsWritable, IsInPlace};
+ghost use Rattle.rp_base.specs.Faults.{Rose};
+ghost use Rattle.rp_base.specs.Geometry.{IsSector, least_sectors as least_sectors_of};
+ghost use Rattle.rp_base.specs.Image.{bytes_at};
 ghost use Rattle.rp_disk.specs.History.{shown};
-ghost use Rattle.rp_gpt.specs.Shown.{accepted};
-ghost use Rattle.rp_table.specs.Pieces.{ArePieces};
+ghost use Rattle.rp_disk.specs.Made.{history_told};
+ghost use Rattle.rp_gpt.specs.Shown.{accepted, entries_or_least};
+ghost use Rattle.rp_gpt.specs.Accepted.{IsSeen};
+ghost use Rattle.rp_table.specs.Pieces.{IsDisk, IsSized, AreSized, IsPlaceOf, ArePieces};
 
 use crate::judge::judged;
-use crate::pieces::Pieces;
-use rp_base::{Failed, Origin, SECTOR, Seen};
+use crate::pieces::{Pieces, Place};
+use rp_base::{
+    List, Origin, SECTOR, Seen, Which, copy_bytes, copy_place, header_place, least_sectors,
+};
 use rp_disk::Disk;
-use rp_gpt::{COPY_BYTES, Empty, TableFault};
+use rp_gpt::{Empty, TableFault, entries_of};
 use std::alloc::Global;
-
-/// The least bytes of an image: the sector of the MBR, two places of 33, and one more.
-const LEAST_LEN: u64 = 68 * SECTOR;
 
 /// The most bytes of an image.
 const GREATEST_LEN: u64 = 1 << 44;
 
-/// Sectors of a copy's place.
-const PLACE: u64 = 33;
+/// The least and the greatest number of entries of a table.
+const LEAST_ENTRIES: u16 = 128;
 
-/// What is seen of the image on a disk, or the first fault. It makes no changing call and no stray one, and takes
-/// memory for the rows of the table.
+const GREATEST_ENTRIES: u16 = 1024;
+
+/// What is seen of the image on a disk with sectors of 512 bytes, or the first fault, as by `read_at`.
 pub fn read<D: Disk>(alloc: Global, disk: &mut D, empty: Empty) -> Result<Seen, TableFault>
-    ensures told { D.told disk.new ≡ D.told disk.old }
-    ensures strays { IfSome (D.told disk.old) (λ h. D.strays disk.new ≡ D.strays disk.old) }
-    ensures answer { IfSome (D.told disk.old) (λ h. (result ≡ Err TableFault.Disk) ⊎ Gives TableFault.Memory (accepted (shown h) empty) result) }
+    ensures first { D.first disk.new ≡ D.first disk.old }
+    ensures calls { D.calls disk.new ≡ D.calls disk.old }
+    ensures strays { IfSome (D.first disk.old) (λ _. D.strays disk.new ≡ D.strays disk.old) }
+    ensures answer { IfSome (history_told (D.first disk.old) (D.calls disk.old)) (λ h. (result ≡ Err TableFault.Disk) ⊎ Gives TableFault.Memory (accepted 512 (shown h) empty) result) }
+    ensures len { IfSome (history_told (D.first disk.old) (D.calls disk.old)) (λ h. IfOk result (λ seen. length (shown h) ≡ 512 * seen.sectors)) }
     ensures fault { result ≡ Err TableFault.Disk → Rose (D.faults disk.old) (D.faults disk.new) }
     ensures kept { (result ≡ Err TableFault.Disk) ⊎ (D.faults disk.new ≡ D.faults disk.old) }
-    ensures writable { IfOk result (λ seen. IsWritable seen.shown) }
-    ensures in_place { IfOk result (λ seen. IsInPlace seen.sectors seen.shown) }
+    ensures seen { IfOk result (λ seen. IsSeen 512 seen) }
+    ensures origin { empty ≡ Empty.Refuse → IfOk result (λ seen. seen.origin ≢ Origin.Neither) }
+{
+    read_at(alloc, disk, empty, 512)
+}
+
+/// What is seen of the image on a disk with sectors of 512 or 4,096 bytes, or the first fault. It makes no changing call
+/// and no stray one, and takes memory for the places of both copies and for the rows of the table.
+pub fn read_at<D: Disk>(
+    alloc: Global,
+    disk: &mut D,
+    empty: Empty,
+    sector: u32,
+) -> Result<Seen, TableFault>
+    requires { IsSector sector }
+    ensures first { D.first disk.new ≡ D.first disk.old }
+    ensures calls { D.calls disk.new ≡ D.calls disk.old }
+    ensures strays { IfSome (D.first disk.old) (λ _. D.strays disk.new ≡ D.strays disk.old) }
+    ensures answer { IfSome (history_told (D.first disk.old) (D.calls disk.old)) (λ h. (result ≡ Err TableFault.Disk) ⊎ Gives TableFault.Memory (accepted sector (shown h) empty) result) }
+    ensures len { IfSome (history_told (D.first disk.old) (D.calls disk.old)) (λ h. IfOk result (λ seen. length (shown h) ≡ 512 * seen.sectors)) }
+    ensures fault { result ≡ Err TableFault.Disk → Rose (D.faults disk.old) (D.faults disk.new) }
+    ensures kept { (result ≡ Err TableFault.Disk) ⊎ (D.faults disk.new ≡ D.faults disk.old) }
+    ensures seen { IfOk result (λ seen. IsSeen sector seen) }
     ensures origin { empty ≡ Empty.Refuse → IfOk result (λ seen. seen.origin ≢ Origin.Neither) }
 {
     let Ok(len) = disk.len() else {
@@ -42,34 +68,115 @@ pub fn read<D: Disk>(alloc: Global, disk: &mut D, empty: Empty) -> Result<Seen, 
     if len > GREATEST_LEN {
         return Err(TableFault::TooLong { len });
     }
-    if len % SECTOR != 0 || len < LEAST_LEN {
+    if !has_room(len, sector) {
         return Err(TableFault::TooShort { len });
     }
-    let Ok(pieces) = read_pieces(disk, len / SECTOR) else {
-        return Err(TableFault::Disk);
-    };
+    let pieces = read_pieces(alloc, disk, sector, len / u64::from(sector))?;
     judged(alloc, &pieces, empty)
 }
 
-/// The pieces of an image of this many sectors.
-fn read_pieces<D: Disk>(disk: &mut D, sectors: u64) -> Result<Pieces, Failed>
-    requires least { 68 ≤ sectors }
-    requires most { sectors ≤ 2 ^ 35 }
-    ensures told { D.told disk.new ≡ D.told disk.old }
-    ensures strays { IfSome (D.told disk.old) (λ h. length (shown h) ≡ 512 * sectors → D.strays disk.new ≡ D.strays disk.old) }
-    ensures pieces { IfSome (D.told disk.old) (λ h. IfOk result (λ pieces. length (shown h) ≡ 512 * sectors → ArePieces (shown h) pieces)) }
-    ensures cause { HasCause (D.faults disk.old) (D.faults disk.new) result }
+/// Whether this many bytes are whole sectors, and no fewer than a table needs.
+fn has_room(len: u64, sector: u32) -> bool
+    requires { IsSector sector }
+    ensures { result ≡ (len % sector == 0 && nat_le (least_sectors_of sector 128) (len / sector)) }
 {
-    let mut first = [0; SECTOR as usize];
-    disk.read(0, &mut first)?;
-    let mut primary = [0; COPY_BYTES];
-    disk.read(SECTOR, &mut primary)?;
-    let mut backup = [0; COPY_BYTES];
-    disk.read((sectors - PLACE) * SECTOR, &mut backup)?;
+    let size = u64::from(sector);
+    len % size == 0 && least_sectors(sector, LEAST_ENTRIES) <= len / size
+}
+
+/// The pieces of an image of this many sectors.
+fn read_pieces<D: Disk>(
+    alloc: Global,
+    disk: &mut D,
+    sector: u32,
+    sectors: u64,
+) -> Result<Pieces, TableFault>
+    requires { IsDisk sector sectors }
+    ensures first { D.first disk.new ≡ D.first disk.old }
+    ensures calls { D.calls disk.new ≡ D.calls disk.old }
+    ensures strays { IfSome (history_told (D.first disk.old) (D.calls disk.old)) (λ h. length (shown h) ≡ sector * sectors → D.strays disk.new ≡ D.strays disk.old) }
+    ensures pieces { IfSome (history_told (D.first disk.old) (D.calls disk.old)) (λ h. IfOk result (λ pieces. length (shown h) ≡ sector * sectors → ArePieces (shown h) pieces)) }
+    ensures sized { IfOk result (λ pieces. AreSized pieces × (pieces.sector ≡ sector) × (pieces.sectors ≡ sectors)) }
+    ensures fault { result ≡ Err TableFault.Disk → Rose (D.faults disk.old) (D.faults disk.new) }
+    ensures either { IfErr result (λ fault. (fault ≡ TableFault.Disk) ⊎ (fault ≡ TableFault.Memory)) }
+    ensures kept { (result ≡ Err TableFault.Disk) ⊎ (D.faults disk.new ≡ D.faults disk.old) }
+{
+    let first = read_range(alloc, disk, 0, SECTOR as usize)?;
+    let primary = read_place(alloc, disk, Which::Primary, sector, sectors)?;
+    let backup = read_place(alloc, disk, Which::Backup, sector, sectors)?;
     Ok(Pieces {
+        sector,
         sectors,
         first,
         primary,
         backup,
     })
+}
+
+/// A copy's place, of as many entries as its header says.
+fn read_place<D: Disk>(
+    alloc: Global,
+    disk: &mut D,
+    which: Which,
+    sector: u32,
+    sectors: u64,
+) -> Result<Place, TableFault>
+    requires { IsDisk sector sectors }
+    ensures first { D.first disk.new ≡ D.first disk.old }
+    ensures calls { D.calls disk.new ≡ D.calls disk.old }
+    ensures strays { IfSome (history_told (D.first disk.old) (D.calls disk.old)) (λ h. length (shown h) ≡ sector * sectors → D.strays disk.new ≡ D.strays disk.old) }
+    ensures place { IfSome (history_told (D.first disk.old) (D.calls disk.old)) (λ h. IfOk result (λ place. length (shown h) ≡ sector * sectors → IsPlaceOf sector (shown h) which place)) }
+    ensures sized { IfOk result (λ place. IsSized sector sectors place) }
+    ensures fault { result ≡ Err TableFault.Disk → Rose (D.faults disk.old) (D.faults disk.new) }
+    ensures either { IfErr result (λ fault. (fault ≡ TableFault.Disk) ⊎ (fault ≡ TableFault.Memory)) }
+    ensures kept { (result ≡ Err TableFault.Disk) ⊎ (D.faults disk.new ≡ D.faults disk.old) }
+{
+    let size = u64::from(sector);
+    let at = size * header_place(which, sectors);
+    let header = read_range(alloc, disk, at, sector as usize)?;
+    let entries = entries_or_least(sector, sectors, entries_of(header.as_slice()));
+    let at = size * copy_place(which, sector, entries, sectors);
+    let bytes = read_range(alloc, disk, at, copy_bytes(entries, sector))?;
+    Ok(Place { entries, bytes })
+}
+
+/// The number of entries that a header says, or the least where a copy may not have so many.
+fn entries_or_least(sector: u32, sectors: u64, entries: u32) -> u16
+    requires { IsSector sector }
+    ensures { result ≡ entries_or_least sector sectors entries }
+{
+    if entries < u32::from(LEAST_ENTRIES) || entries > u32::from(GREATEST_ENTRIES) {
+        return LEAST_ENTRIES;
+    }
+    let entries = entries as u16;
+    if least_sectors(sector, entries) <= sectors {
+        entries
+    } else {
+        LEAST_ENTRIES
+    }
+}
+
+/// So many bytes of a disk from an offset on.
+fn read_range<D: Disk>(
+    alloc: Global,
+    disk: &mut D,
+    at: u64,
+    count: usize,
+) -> Result<List<u8>, TableFault>
+    ensures first { D.first disk.new ≡ D.first disk.old }
+    ensures calls { D.calls disk.new ≡ D.calls disk.old }
+    ensures strays { IfSome (history_told (D.first disk.old) (D.calls disk.old)) (λ h. at + count ≤ length (shown h) → D.strays disk.new ≡ D.strays disk.old) }
+    ensures bytes { IfSome (history_told (D.first disk.old) (D.calls disk.old)) (λ h. IfOk result (λ bytes. bytes ≡ bytes_at (shown h) at count)) }
+    ensures len { IfOk result (λ bytes. length bytes ≡ count) }
+    ensures fault { result ≡ Err TableFault.Disk → Rose (D.faults disk.old) (D.faults disk.new) }
+    ensures either { IfErr result (λ fault. (fault ≡ TableFault.Disk) ⊎ (fault ≡ TableFault.Memory)) }
+    ensures kept { (result ≡ Err TableFault.Disk) ⊎ (D.faults disk.new ≡ D.faults disk.old) }
+{
+    let Ok(mut bytes) = vec![in alloc; 0; count] else {
+        return Err(TableFault::Memory);
+    };
+    match disk.read(at, bytes.as_mut_slice()) {
+        Ok(()) => Ok(List::from_vec(bytes)),
+        Err(_) => Err(TableFault::Disk),
+    }
 }

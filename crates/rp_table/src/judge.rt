@@ -1,166 +1,167 @@
 //! The judgement of an image by its pieces.
 
-ghost use Rattle.std.specs.Prelude.{◌≡◌, ◌≢◌, ◌≤◌, ◌^◌, ℕ, List, IfOk, IfSome, IsErr, Err, length};
+ghost use Rattle.std.specs.Prelude.{◌≡◌, ◌≢◌, ◌≤◌, ◌*◌, ℕ, List, IfOk, IfSome, IsErr, Err, None, length};
 ghost use Rattle.rp_base.specs.Answers.{Gives};
-ghost use Rattle.rp_base.specs.Table.{IsWritable, IsInPlace};
-ghost use Rattle.rp_gpt.specs.Copy.{answer};
-ghost use Rattle.rp_gpt.specs.Shown.{told, told_at, accepted_as, accepted_table, accepted_blank, blank};
-ghost use Rattle.rp_table.specs.Pieces.{ArePieces, table_told, checked};
+ghost use Rattle.rp_base.specs.Geometry.{IsSector, least_sectors, sector_units as units_of};
+ghost use Rattle.rp_base.specs.Table.{IsWritable, TableFits};
+ghost use Rattle.rp_gpt.specs.Shown.{shown, origin_of, wider_copy, holds_exact, seen_of, accepted_as, accepted_table, accepted_blank, blank};
+ghost use Rattle.rp_gpt.specs.Accepted.{IsRead, IsSeen};
+ghost use Rattle.rp_table.specs.Pieces.{IsDisk, AreSized, ArePieces};
 
-use crate::pieces::Pieces;
-use crate::rows::{outside_slot, overlapping_slots};
-use rp_base::{Guid, List, Origin, SECTOR, Seen, Table};
-use rp_gpt::{CopyFault, Empty, TableFault, Which, decode_copy, foreign_type, is_exact, mbr_state};
+use crate::check::table_fault;
+use crate::pieces::{Pieces, place_in};
+use crate::told::{Said, said_at, wider};
+use rp_base::{Guid, List, Origin, Seen, Table, Which, sector_units, usable_end};
+use rp_gpt::{Empty, TableFault, foreign_type, is_exact, mbr_state};
 use std::alloc::Global;
 
-/// The first sector that a partition may have: behind the primary copy.
-const FIRST_USABLE: u64 = 34;
+/// The number of entries of a table that isn't there yet.
+const BLANK_ENTRIES: u16 = 128;
 
-/// Sectors behind the last one that a partition may have, that one too: the backup copy and it.
-const BEHIND_LAST: u64 = 34;
-
-/// The first usable sector of a table that isn't there yet: 1 MiB.
+/// Its first usable unit: 1 MiB.
 const BLANK_FIRST: u64 = 2048;
 
-/// The least sectors of an image that a table is made in.
-const BLANK_LEAST: u64 = 2082;
+/// The size of an entry, as a fault has it.
+const ENTRY_SIZE: u32 = 128;
 
 /// What is seen of an image, or the first fault. The primary copy tells first.
 pub fn judged(alloc: Global, pieces: &Pieces, empty: Empty) -> Result<Seen, TableFault>
-    ensures answer { (image : List ℕ) → ArePieces image pieces.now → Gives TableFault.Memory (accepted_as image empty (told_at image Which.Primary) (told_at image Which.Backup)) result }
+    requires { AreSized pieces.now }
+    ensures answer { (image : List ℕ) → ArePieces image pieces.now
+        → Gives TableFault.Memory (accepted_as pieces.now.sector image empty (shown pieces.now.sector image)) result }
     ensures no_call { result ≢ Err TableFault.Disk }
-    ensures writable { IfOk result (λ seen. IsWritable seen.shown) }
-    ensures in_place { IfOk result (λ seen. IsInPlace seen.sectors seen.shown) }
+    ensures seen { IfOk result (λ seen. IsSeen pieces.now.sector seen) }
+    ensures sectors { IfOk result (λ seen. seen.sectors ≡ units_of pieces.now.sector * pieces.now.sectors) }
     ensures origin { empty ≡ Empty.Refuse → IfOk result (λ seen. seen.origin ≢ Origin.Neither) }
 {
-    let sectors = pieces.sectors;
-    if let Some(table) = table_at(alloc, &pieces.primary, Which::Primary, sectors)? {
-        return with_table(pieces, empty, Origin::Primary, table);
+    let Said { table, broken } = said_at(alloc, pieces, Which::Primary)?;
+    if let Some(table) = table {
+        return with_table(pieces, empty, Origin::Primary, table, None);
     }
-    if let Some(table) = table_at(alloc, &pieces.backup, Which::Backup, sectors)? {
-        return with_table(pieces, empty, Origin::Backup, table);
+    let primary = broken;
+    let Said { table, broken } = said_at(alloc, pieces, Which::Backup)?;
+    if let Some(table) = table {
+        let wide = wider(table.entries, primary, broken);
+        return with_table(pieces, empty, Origin::Backup, table, wide);
     }
-    without_table(alloc, pieces, empty)
+    let wide = wider(BLANK_ENTRIES, primary, broken);
+    without_table(alloc, pieces, empty, wide)
 }
 
-/// The table of a place, none where it tells nothing, or the fault for which it refuses the image.
-fn table_at(
-    alloc: Global,
-    place: &[u8],
-    which: Which,
-    sectors: u64,
-) -> Result<Option<Table>, TableFault>
-    requires place { length place.now ≡ 16896 }
-    requires least { 68 ≤ sectors }
-    requires most { sectors ≤ 2 ^ 35 }
-    ensures told { Gives TableFault.Memory (table_told (told (answer place.now which sectors))) result }
-    ensures no_call { result ≢ Err TableFault.Disk }
-    ensures writable { IfOk result (λ table. IfSome table IsWritable) }
-{
-    match decode_copy(alloc, place, which, sectors) {
-        Ok(table) => Ok(Some(table)),
-        Err(CopyFault::ArrayPlace) => Err(TableFault::ArrayPlace),
-        Err(CopyFault::Counts { count, size }) => Err(TableFault::EntryCount { count, size }),
-        Err(CopyFault::RowOrder { slot }) => Err(TableFault::RowRange { slot }),
-        Err(CopyFault::Memory) => Err(TableFault::Memory),
-        Err(_) => Ok(None),
-    }
-}
-
-/// What is seen of an image that shows a table.
+/// What is seen of an image that shows a table, unless a broken copy is wider.
 fn with_table(
     pieces: &Pieces,
     empty: Empty,
     origin: Origin,
     table: Table,
+    wide: Option<u16>,
 ) -> Result<Seen, TableFault>
-    requires { IsWritable table }
-    ensures answer { (image : List ℕ) → ArePieces image pieces.now → result ≡ accepted_table image empty origin table }
+    requires sized { AreSized pieces.now }
+    requires read { IsRead pieces.now.sector pieces.now.sectors table }
+    ensures answer { (image : List ℕ) → ArePieces image pieces.now → origin ≡ origin_of pieces.now.sector image
+        → wide ≡ wider_copy pieces.now.sector image origin table → result ≡ accepted_table pieces.now.sector image empty table }
     ensures no_call { result ≢ Err TableFault.Disk }
-    ensures seen { IfOk result (λ seen. (seen.shown ≡ table) × (seen.origin ≡ origin)) }
-    ensures in_place { IfOk result (λ seen. IsInPlace seen.sectors seen.shown) }
+    ensures seen { IfOk result (λ seen. IsSeen pieces.now.sector seen) }
+    ensures sectors { IfOk result (λ seen. seen.sectors ≡ units_of pieces.now.sector * pieces.now.sectors) }
+    ensures origin { IfOk result (λ seen. seen.origin ≡ origin) }
 {
     if let Empty::Require = empty {
         return Err(TableFault::NotEmpty);
     }
-    check_table(pieces.sectors, &table)?;
+    if let Some(fault) = table_fault(pieces.sectors, &table) {
+        return Err(fault);
+    }
+    let primary_same = is_same(pieces, Which::Primary, &table);
+    let backup_same = is_same(pieces, Which::Backup, &table);
+    seen_of(pieces, origin, table, primary_same, backup_same, wide)
+}
+
+/// Whether a place holds the exact copy of a table.
+fn is_same(pieces: &Pieces, which: Which, table: &Table) -> bool
+    requires sized { AreSized pieces.now }
+    requires sector { table.now.sector ≡ pieces.now.sector }
+    requires writable { IsWritable table.now }
+    requires fits { TableFits table.now }
+    requires room { least_sectors table.now.sector table.now.entries ≤ pieces.now.sectors }
+    ensures { (image : List ℕ) → ArePieces image pieces.now → result ≡ holds_exact pieces.now.sector image table.now which }
+{
+    let place = place_in(pieces, which);
+    place.entries == table.entries && is_exact(table, which, pieces.sectors, place.bytes.as_slice())
+}
+
+/// What is seen of an image, unless a broken copy is wider than the table.
+fn seen_of(
+    pieces: &Pieces,
+    origin: Origin,
+    table: Table,
+    primary_same: bool,
+    backup_same: bool,
+    wide: Option<u16>,
+) -> Result<Seen, TableFault>
+    requires { AreSized pieces.now }
+    ensures answer { (image : List ℕ) → ArePieces image pieces.now → wide ≡ wider_copy pieces.now.sector image origin table
+        → result ≡ seen_of pieces.now.sector image origin table primary_same backup_same }
+    ensures no_call { result ≢ Err TableFault.Disk }
+    ensures shown { IfOk result (λ seen. (seen.shown ≡ table) × (seen.origin ≡ origin)) }
+    ensures sectors { IfOk result (λ seen. seen.sectors ≡ units_of pieces.now.sector * pieces.now.sectors) }
+{
+    if let Some(count) = wide {
+        return Err(TableFault::EntryCount {
+            count: u32::from(count),
+            size: ENTRY_SIZE,
+        });
+    }
     Ok(Seen {
-        sectors: pieces.sectors,
-        primary_same: is_exact(&table, Which::Primary, pieces.sectors, &pieces.primary),
-        backup_same: is_exact(&table, Which::Backup, pieces.sectors, &pieces.backup),
-        mbr: mbr_state(&pieces.first, pieces.sectors),
+        sectors: sector_units(pieces.sector) * pieces.sectors,
         shown: table,
         origin,
+        primary_same,
+        backup_same,
+        mbr: mbr_state(pieces.first.as_slice(), pieces.sectors),
     })
 }
 
-/// Refuses a table for its bounds, its first row outside them, or its least pair of rows that share a sector.
-fn check_table(sectors: u64, table: &Table) -> Result<(), TableFault>
-    requires table { IsWritable table.now }
-    requires least { 68 ≤ sectors }
-    requires most { sectors ≤ 2 ^ 35 }
-    ensures answer { result ≡ checked sectors table.now }
+/// What is seen of an image that shows no table, unless a broken copy is wider than the blank one.
+fn without_table(
+    alloc: Global,
+    pieces: &Pieces,
+    empty: Empty,
+    wide: Option<u16>,
+) -> Result<Seen, TableFault>
+    requires { AreSized pieces.now }
+    ensures answer { (image : List ℕ) → ArePieces image pieces.now
+        → wide ≡ wider_copy pieces.now.sector image Origin.Neither (blank pieces.now.sector pieces.now.sectors) → result ≡ accepted_blank pieces.now.sector image empty }
     ensures no_call { result ≢ Err TableFault.Disk }
-    ensures in_place { IfOk result (λ _. IsInPlace sectors table.now) }
-{
-    let (first, last) = (table.first, table.last);
-    if first < FIRST_USABLE || last < first {
-        return Err(TableFault::Bounds { first, last });
-    }
-    if last > sectors - BEHIND_LAST {
-        return Err(TableFault::TooShort {
-            len: sectors * SECTOR,
-        });
-    }
-    if let Some(slot) = outside_slot(table) {
-        return Err(TableFault::RowRange { slot });
-    }
-    if let Some((a, b)) = overlapping_slots(table.rows.as_slice()) {
-        return Err(TableFault::Overlap { a, b });
-    }
-    Ok(())
-}
-
-/// What is seen of an image that shows no table.
-fn without_table(alloc: Global, pieces: &Pieces, empty: Empty) -> Result<Seen, TableFault>
-    ensures answer { (image : List ℕ) → ArePieces image pieces.now → result ≡ accepted_blank image empty }
-    ensures no_call { result ≢ Err TableFault.Disk }
-    ensures writable { IfOk result (λ seen. IsWritable seen.shown) }
-    ensures in_place { IfOk result (λ seen. IsInPlace seen.sectors seen.shown) }
+    ensures seen { IfOk result (λ seen. IsSeen pieces.now.sector seen) }
+    ensures sectors { IfOk result (λ seen. seen.sectors ≡ units_of pieces.now.sector * pieces.now.sectors) }
     ensures refused { empty ≡ Empty.Refuse → IsErr result }
 {
-    if let Some(kind) = foreign_type(&pieces.first) {
+    if let Some(kind) = foreign_type(pieces.first.as_slice()) {
         return Err(TableFault::OtherTable { kind });
     }
     if let Empty::Refuse = empty {
         return Err(TableFault::NoTable);
     }
-    let sectors = pieces.sectors;
-    if sectors < BLANK_LEAST {
+    let table = blank(alloc, pieces.sector, pieces.sectors);
+    if table.last < BLANK_FIRST {
         return Err(TableFault::TooShort {
-            len: sectors * SECTOR,
+            len: u64::from(pieces.sector) * pieces.sectors,
         });
     }
-    Ok(Seen {
-        sectors,
-        shown: blank(alloc, sectors),
-        origin: Origin::Neither,
-        primary_same: false,
-        backup_same: false,
-        mbr: mbr_state(&pieces.first, sectors),
-    })
+    seen_of(pieces, Origin::Neither, table, false, false, wide)
 }
 
-/// The table of an image that shows none.
-fn blank(alloc: Global, sectors: u64) -> Table
-    requires { 68 ≤ sectors }
-    ensures value { result ≡ blank sectors }
-    ensures writable { IsWritable result }
+/// The table of an image of this many sectors that shows none.
+fn blank(alloc: Global, sector: u32, sectors: u64) -> Table
+    requires { IsDisk sector sectors }
+    ensures { result ≡ blank sector sectors }
 {
     Table {
+        sector,
+        entries: BLANK_ENTRIES,
         disk: Guid([0; 16]),
         first: BLANK_FIRST,
-        last: sectors - BEHIND_LAST,
+        last: usable_end(sector, BLANK_ENTRIES, sectors) - 1,
         rows: List::new(alloc),
     }
 }

@@ -1,20 +1,33 @@
 //! The pieces of an image that decide what it shows.
 
-ghost use Rattle.std.specs.Prelude.{◌≡◌, ◌≤◌, ◌^◌, length};
+ghost use Rattle.std.specs.Prelude.{◌≡◌};
+ghost use Rattle.rp_table.specs.Pieces.{place_in};
 
-use rp_base::SECTOR;
-use rp_gpt::COPY_BYTES;
+use rp_base::{List, Which};
 
-/// The sectors of an image, from 68 to 2^35, and the bytes of its first sector and of the places of both copies.
+/// The bytes of a copy's place, for its number of entries.
+#[derive(Drop)]
+pub struct Place {
+    pub entries: u16,
+    pub bytes: List<u8>,
+}
+
+/// An image's number of sectors and the bytes of one, its first 512 bytes, and the places of both copies.
 #[derive(Drop)]
 pub struct Pieces {
+    pub sector: u32,
     pub sectors: u64,
-    pub first: [u8; SECTOR as usize],
-    pub primary: [u8; COPY_BYTES],
-    pub backup: [u8; COPY_BYTES],
-    ghost least: { 68 ≤ sectors },
-    ghost most: { sectors ≤ 2 ^ 35 },
-    ghost first_len: { length first ≡ 512 },
-    ghost primary_len: { length primary ≡ 16896 },
-    ghost backup_len: { length backup ≡ 16896 },
+    pub first: List<u8>,
+    pub primary: Place,
+    pub backup: Place,
+}
+
+/// The place of a copy.
+pub fn place_in(pieces: &Pieces, which: Which) -> &Place
+    ensures { result.now ≡ place_in pieces.now which }
+{
+    match which {
+        Which::Primary => &pieces.primary,
+        Which::Backup => &pieces.backup,
+    }
 }

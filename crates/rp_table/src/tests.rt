@@ -1,4 +1,4 @@
-use crate::{Empty, TableFault, read};
+use crate::{Empty, TableFault, read, read_at};
 use rp_base::{List, Mbr, Origin};
 use rp_disk::MemDisk;
 use std::alloc::{AllocError, Global};
@@ -90,24 +90,6 @@ fn good(alloc: Global) -> Result<Vec<u8>, AllocError> {
     image(alloc, &[Entry(0, 34, 35), Entry(3, 36, 38)], &GOOD)
 }
 
-// The good image with other bytes at an offset.
-fn patched(alloc: Global, at: u16, part: &[u8]) -> Result<Vec<u8>, AllocError> {
-    let mut bytes = good(alloc)?;
-    write_at(&mut bytes, usize::from(at), part);
-    Ok(bytes)
-}
-
-// The good image, but that the bounds or the array's LBA in the primary's header are others.
-fn resealed(alloc: Global, at: u16, to: u8, sum: &[u8]) -> Result<Vec<u8>, AllocError> {
-    let mut bytes = patched(alloc, PRIMARY_HEADER + 16, sum)?;
-    write_at(
-        &mut bytes,
-        usize::from(PRIMARY_HEADER) + usize::from(at),
-        &[to],
-    );
-    Ok(bytes)
-}
-
 type Answer = Result<(Origin, bool, bool, Mbr), TableFault>;
 
 fn answer(alloc: Global, bytes: &[u8], empty: Empty) -> Result<Answer, AllocError> {
@@ -119,184 +101,141 @@ fn answer(alloc: Global, bytes: &[u8], empty: Empty) -> Result<Answer, AllocErro
     })
 }
 
+// Bytes at places of the good image, and what is seen then.
+struct Case(&'static [(u16, &'static [u8])], Answer);
+
+const CASES: [Case; 9] = [
+    Case(&[], Ok((Origin::Primary, true, true, Mbr::Differs))),
+    // No signature in the primary; a byte behind the backup's header; a partition of another table beside the good one.
+    Case(
+        &[(512, &[0x65])],
+        Ok((Origin::Backup, false, true, Mbr::Differs)),
+    ),
+    Case(
+        &[(BACKUP_HEADER + 92, &[1])],
+        Ok((Origin::Primary, true, false, Mbr::Differs)),
+    ),
+    Case(
+        &[(450, &[0x83]), (510, &[0x55, 0xaa])],
+        Ok((Origin::Primary, true, true, Mbr::Foreign)),
+    ),
+    // A primary that can't be kept isn't passed over: the place of its array, and 127 entries.
+    Case(
+        &[(512 + 16, &[0x03, 0x9d, 0x76, 0x33]), (512 + 72, &[3])],
+        Err(TableFault::ArrayPlace),
+    ),
+    Case(
+        &[(512 + 16, &[0x20, 0xd7, 0x08, 0x60]), (512 + 80, &[127])],
+        Err(TableFault::EntryCount {
+            count: 127,
+            size: 128,
+        }),
+    ),
+    // Beside the good backup, a primary of 129 entries that don't have its checksum.
+    Case(
+        &[(512 + 16, &[0x2a, 0xea, 0xb4, 0xcd]), (512 + 80, &[129])],
+        Err(TableFault::EntryCount {
+            count: 129,
+            size: 128,
+        }),
+    ),
+    // The usable sectors.
+    Case(
+        &[(512 + 16, &[0x52, 0xa2, 0x44, 0xec]), (512 + 40, &[33])],
+        Err(TableFault::Bounds {
+            first: 33,
+            last: 38,
+        }),
+    ),
+    Case(
+        &[(512 + 16, &[0x27, 0x9e, 0x39, 0x7c]), (512 + 48, &[39])],
+        Err(TableFault::TooShort { len: 72 * 512 }),
+    ),
+];
+
 #[test]
 fn shows_the_first_copy_that_tells(rt: HostRuntime) -> Result<(), Fail> {
     let alloc = rt.alloc();
-    let whole = Ok((Origin::Primary, true, true, Mbr::Differs));
-    let bytes = good(alloc)?;
-    assert_eq!(&rt; answer(alloc, &bytes, Empty::Refuse)?, whole);
-    assert_eq!(&rt; answer(alloc, &bytes, Empty::Allow)?, whole);
+    for Case(patches, expected) in &CASES {
+        let mut bytes = good(alloc)?;
+        for (at, part) in *patches {
+            write_at(&mut bytes, usize::from(*at), part);
+        }
+        assert_eq!(&rt; answer(alloc, &bytes, Empty::Allow)?, *expected);
+    }
     assert_eq!(&rt;
-        answer(alloc, &bytes, Empty::Require)?,
+        answer(alloc, &good(alloc)?, Empty::Require)?,
         Err(TableFault::NotEmpty)
     );
+    Ok(())
+}
 
-    // The primary's signature, a byte behind the backup's header, and a partition of another table beside the good one.
-    assert_eq!(&rt;
-        answer(
-            alloc,
-            &patched(alloc, PRIMARY_HEADER, &[0x65])?,
-            Empty::Refuse
-        )?,
-        Ok((Origin::Backup, false, true, Mbr::Differs))
-    );
-    assert_eq!(&rt;
-        answer(
-            alloc,
-            &patched(alloc, BACKUP_HEADER + 92, &[1])?,
-            Empty::Refuse
-        )?,
-        Ok((Origin::Primary, true, false, Mbr::Differs))
-    );
-    let mut other = patched(alloc, 450, &[0x83])?;
-    write_at(&mut other, 510, &[0x55, 0xaa]);
-    assert_eq!(&rt;
-        answer(alloc, &other, Empty::Refuse)?,
-        Ok((Origin::Primary, true, true, Mbr::Foreign))
-    );
-
-    // A primary that can't be kept isn't passed over.
-    assert_eq!(&rt;
-        answer(
-            alloc,
-            &resealed(alloc, 72, 3, &[0x03, 0x9d, 0x76, 0x33])?,
-            Empty::Refuse
-        )?,
-        Err(TableFault::ArrayPlace)
-    );
-    assert_eq!(&rt;
-        answer(
-            alloc,
-            &resealed(alloc, 80, 129, &[0x2a, 0xea, 0xb4, 0xcd])?,
-            Empty::Refuse
-        )?,
-        Err(TableFault::EntryCount {
-            count: 129,
-            size: 128
-        })
-    );
+// Slots 1 and 2 share a sector too, and come later than 0 and 5.
+#[test]
+fn refuses_rows(rt: HostRuntime) -> Result<(), Fail> {
+    let alloc = rt.alloc();
+    let outside = image(
+        alloc,
+        &[Entry(0, 34, 35), Entry(3, 36, 39)],
+        &Sums(
+            [0x6d, 0xdf, 0x32, 0xcd],
+            [0xdb, 0xa1, 0x42, 0x70],
+            [0x59, 0x63, 0x6d, 0x58],
+        ),
+    )?;
+    let sharing = image(
+        alloc,
+        &[
+            Entry(0, 37, 38),
+            Entry(1, 34, 35),
+            Entry(2, 35, 36),
+            Entry(5, 38, 38),
+        ],
+        &Sums(
+            [0xb6, 0xc6, 0x06, 0x07],
+            [0xe5, 0xdf, 0x7b, 0x52],
+            [0x67, 0x1d, 0x54, 0x7a],
+        ),
+    )?;
+    for (bytes, fault) in [
+        (&outside, TableFault::RowRange { slot: 3 }),
+        (&sharing, TableFault::Overlap { a: 0, b: 5 }),
+    ] {
+        assert_eq!(&rt; answer(alloc, bytes, Empty::Refuse)?, Err(fault));
+    }
     Ok(())
 }
 
 #[test]
 fn takes_a_blank_image(rt: HostRuntime) -> Result<(), Fail> {
     let alloc = rt.alloc();
-    let blank = Ok((Origin::Neither, false, false, Mbr::Differs));
-    let bytes = vec![in alloc; 0; 2082 * 512]?;
-    assert_eq!(&rt;
-        answer(alloc, &bytes, Empty::Refuse)?,
-        Err(TableFault::NoTable)
-    );
-    assert_eq!(&rt; answer(alloc, &bytes, Empty::Allow)?, blank);
-    assert_eq!(&rt; answer(alloc, &bytes, Empty::Require)?, blank);
-    let bytes = vec![in alloc; 0; 2081 * 512]?;
-    assert_eq!(&rt;
-        answer(alloc, &bytes, Empty::Allow)?,
-        Err(TableFault::TooShort { len: 2081 * 512 })
-    );
-
-    // Both arrays damaged, and a partition of another table beside them.
-    let mut bytes = patched(alloc, PRIMARY_ARRAY, &[0])?;
-    write_at(&mut bytes, usize::from(BACKUP_ARRAY), &[0]);
-    assert_eq!(&rt;
-        answer(alloc, &bytes, Empty::Refuse)?,
-        Err(TableFault::NoTable)
-    );
-    write_at(&mut bytes, 450, &[0x83]);
-    write_at(&mut bytes, 510, &[0x55, 0xaa]);
-    assert_eq!(&rt;
-        answer(alloc, &bytes, Empty::Allow)?,
-        Err(TableFault::OtherTable { kind: 0x83 })
-    );
-    Ok(())
-}
-
-#[test]
-fn refuses_a_table(rt: HostRuntime) -> Result<(), Fail> {
-    let alloc = rt.alloc();
-    let len = SECTORS as u64 * 512;
-
-    // The usable sectors.
-    for (at, to, sum, fault) in [
-        (
-            40,
-            33,
-            [0x52, 0xa2, 0x44, 0xec],
-            TableFault::Bounds {
-                first: 33,
-                last: 38,
-            },
-        ),
-        (
-            48,
-            39,
-            [0x27, 0x9e, 0x39, 0x7c],
-            TableFault::TooShort { len },
-        ),
-    ] {
-        assert_eq!(&rt;
-            answer(alloc, &resealed(alloc, at, to, &sum)?, Empty::Refuse)?,
-            Err(fault)
-        );
+    // Both sizes of sectors, and the least length that holds the blank table.
+    for (sector, len) in [(512, 2082 * 512), (4096, 262 * 4096)] {
+        for (empty, bytes, fault) in [
+            (Empty::Refuse, len, Some(TableFault::NoTable)),
+            (Empty::Allow, len, None),
+            (Empty::Require, len, None),
+            (
+                Empty::Allow,
+                len - 4096,
+                Some(TableFault::TooShort {
+                    len: len as u64 - 4096,
+                }),
+            ),
+        ] {
+            let bytes = List::from_vec(vec![in alloc; 0; bytes]?);
+            let mut disk = MemDisk::new(alloc, bytes, List::new(alloc));
+            let seen = read_at(alloc, &mut disk, empty, sector);
+            assert_eq!(&rt; seen.err(), fault);
+        }
     }
-
-    // The rows. Slots 1 and 2 share a sector too, and come later than 0 and 5.
-    let rows = [Entry(0, 34, 35), Entry(3, 36, 39)];
-    let sums = Sums(
-        [0x6d, 0xdf, 0x32, 0xcd],
-        [0xdb, 0xa1, 0x42, 0x70],
-        [0x59, 0x63, 0x6d, 0x58],
-    );
-    assert_eq!(&rt;
-        answer(alloc, &image(alloc, &rows, &sums)?, Empty::Refuse)?,
-        Err(TableFault::RowRange { slot: 3 })
-    );
-    let rows = [Entry(0, 33, 35), Entry(3, 36, 38)];
-    let sums = Sums(
-        [0x23, 0xbe, 0x9a, 0xef],
-        [0xc7, 0x58, 0x22, 0xf1],
-        [0x45, 0x9a, 0x0d, 0xd9],
-    );
-    assert_eq!(&rt;
-        answer(alloc, &image(alloc, &rows, &sums)?, Empty::Refuse)?,
-        Err(TableFault::RowRange { slot: 0 })
-    );
-    let rows = [
-        Entry(0, 37, 38),
-        Entry(1, 34, 35),
-        Entry(2, 35, 36),
-        Entry(5, 38, 38),
-    ];
-    let sums = Sums(
-        [0xb6, 0xc6, 0x06, 0x07],
-        [0xe5, 0xdf, 0x7b, 0x52],
-        [0x67, 0x1d, 0x54, 0x7a],
-    );
-    assert_eq!(&rt;
-        answer(alloc, &image(alloc, &rows, &sums)?, Empty::Refuse)?,
-        Err(TableFault::Overlap { a: 0, b: 5 })
-    );
-
-    // The image's length: one sector less, one byte more, and too few sectors.
-    let mut bytes = good(alloc)?;
-    bytes.truncate(71 * 512);
-    assert_eq!(&rt;
-        answer(alloc, &bytes, Empty::Refuse)?,
-        Err(TableFault::TooShort { len: 71 * 512 })
-    );
-    let mut bytes = good(alloc)?;
-    bytes.push(0)?;
-    assert_eq!(&rt;
-        answer(alloc, &bytes, Empty::Refuse)?,
-        Err(TableFault::TooShort { len: len + 1 })
-    );
     Ok(())
 }
 
 #[test]
 fn passes_on_a_fault_of_the_disk(rt: HostRuntime) -> Result<(), Fail> {
     let alloc = rt.alloc();
-    for failing in 1..5 {
+    for failing in 1..7 {
         let bytes = List::from_vec(good(alloc)?);
         let fail = List::from_vec([failing].to_vec(alloc)?);
         let mut disk = MemDisk::new(alloc, bytes, fail);
