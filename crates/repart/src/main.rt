@@ -1,26 +1,65 @@
 //! `repart`: shows the partition table of a raw disk image.
 #![tactic(auto)]
 
+mod help;
+
+use help::{HELP, VERSION};
 use rp_cli::run;
 use rp_disk::FileDisk;
 use rp_io::HostSink;
+use rp_outcome::{MEMORY, WORDS, finish};
+use rp_words::hint_of;
 use std::env;
 use std::io::{self, ErrorKind};
 use std::process::ExitCode;
-
-const OUT_OF_MEMORY: u8 = 10;
 
 fn main(rt: HostRuntime) -> ExitCode {
     let words = match read_words(&rt) {
         Ok(words) => words,
         // Words that aren't all text are no canonical line, as no words are.
-        Err(error) if error.kind() == ErrorKind::InvalidData => Vec::new(rt.alloc()),
-        Err(_) => return ExitCode::from(OUT_OF_MEMORY),
+        Err(error) if error.kind() == ErrorKind::InvalidData => {
+            let status = run_words(&rt, &[]);
+            let _ = eprintln!(rt; "repart: a word isn't UTF-8; see repart --help");
+            return ExitCode::from(status);
+        }
+        Err(_) => return ExitCode::from(MEMORY),
     };
+    let words = words.as_slice();
+    if let [word] = words {
+        let mut out = HostSink::new(&rt);
+        match word.as_str() {
+            "--help" => return ExitCode::from(finish(&mut out, HELP)),
+            "--version" => return ExitCode::from(finish(&mut out, VERSION)),
+            _ => (),
+        }
+    }
+    let status = run_words(&rt, words);
+    if status == WORDS {
+        say_wrong(&rt, words);
+    }
+    ExitCode::from(status)
+}
+
+// Does what the words ask for. Each command that is built reads alone, so the image is opened for that alone.
+fn run_words(rt: &HostRuntime, words: &[String]) -> u8 {
     let image = words.last().map_or("", |word| word.as_str());
-    let mut disk = FileDisk::open(&rt, image);
-    let mut out = HostSink::new(&rt);
-    ExitCode::from(run(rt.alloc(), words.as_slice(), &mut disk, &mut out))
+    let mut disk = FileDisk::open_to_read(rt, image);
+    let mut out = HostSink::new(rt);
+    run(rt.alloc(), words, &mut disk, &mut out)
+}
+
+// Says on standard error which word is wrong, and why.
+fn say_wrong(rt: &HostRuntime, words: &[String]) {
+    if let Some(hint) = hint_of(words) {
+        let word = hint.word;
+        let reason = hint.reason;
+        let values = hint.values;
+        let _ = match (word, values) {
+            ("", _) => eprintln!(rt; "repart: {reason}; see repart --help"),
+            (_, "") => eprintln!(rt; "repart: {word}: {reason}; see repart --help"),
+            _ => eprintln!(rt; "repart: {word}: {reason} {values}; see repart --help"),
+        };
+    }
 }
 
 // The arguments without the program's name.
