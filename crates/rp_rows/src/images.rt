@@ -1,21 +1,23 @@
-//! Images of a table with an EFI system partition in slot 0, byte for byte.
+//! Images of a table with one or two partitions, byte for byte.
 
 use rp_crc::Crc;
 use std::alloc::Global;
 use std::test::Fail;
 
-const SECTOR: usize = 512;
-
 const ENTRY: usize = 128;
-
-const ENTRIES: usize = 128;
 
 const DISK: [u8; 16] = [
     0xaa, 0xaa, 0xaa, 0xaa, 0xbb, 0xbb, 0xcc, 0x4c, 0x8d, 0xdd, 0xee, 0xee, 0xee, 0xee, 0xee, 0xee,
 ];
 
-const ESP: [u8; 16] = [
+/// The type of an EFI system partition, as a disk holds it.
+pub const ESP: [u8; 16] = [
     0x28, 0x73, 0x2a, 0xc1, 0x1f, 0xf8, 0xd2, 0x11, 0xba, 0x4b, 0x00, 0xa0, 0xc9, 0x3e, 0xc9, 0x3b,
+];
+
+/// The type of swap space.
+pub const SWAP: [u8; 16] = [
+    0x6d, 0xfd, 0x57, 0x06, 0xab, 0xa4, 0xc4, 0x43, 0x84, 0xe5, 0x09, 0x33, 0xc8, 0x4b, 0x4f, 0x4f,
 ];
 
 const ID: [u8; 16] = [
@@ -25,10 +27,16 @@ const ID: [u8; 16] = [
 /// What the copies of an image say. LBAs are of first and last sectors.
 #[derive(Clone, Copy)]
 pub struct Numbers {
+    /// The bytes of a sector, and the entries of an array.
+    pub sector: usize,
+    pub entries: usize,
     /// The last LBA of the image.
     pub end: u64,
     pub first: u64,
     pub last: u64,
+    /// The first partition's slot, type and LBAs.
+    pub slot: usize,
+    pub kind: [u8; 16],
     pub start: u64,
     pub stop: u64,
     /// A second partition's slot and LBAs; none where the slot is 0.
@@ -59,6 +67,7 @@ pub fn esp_image(alloc: Global, numbers: Numbers) -> Result<Vec<u8>, Fail> {
     image.extend_from_slice(&end[..4])?;
     pad(&mut image, 48)?;
     image.extend_from_slice(&[0x55, 0xaa])?;
+    pad(&mut image, numbers.sector.wrapping_sub(512))?;
     push_header(
         &mut image,
         numbers,
@@ -67,11 +76,12 @@ pub fn esp_image(alloc: Global, numbers: Numbers) -> Result<Vec<u8>, Fail> {
         numbers.array,
         array.as_slice(),
     )?;
-    image.extend_from_slice(array.as_slice())?;
-    let backup_array = numbers.end.wrapping_sub(32);
-    let middle = backup_array.wrapping_sub(34) as usize;
-    pad(&mut image, middle.wrapping_mul(SECTOR))?;
-    image.extend_from_slice(array.as_slice())?;
+    push_array(&mut image, numbers, array.as_slice())?;
+    let sectors = array_sectors(numbers);
+    let backup_array = numbers.end.wrapping_sub(sectors);
+    let backup = (backup_array as usize).wrapping_mul(numbers.sector);
+    image.resize(backup, 0)?;
+    push_array(&mut image, numbers, array.as_slice())?;
     let backup = Numbers {
         header_size: 92,
         ..numbers
@@ -87,20 +97,35 @@ pub fn esp_image(alloc: Global, numbers: Numbers) -> Result<Vec<u8>, Fail> {
     Ok(image)
 }
 
+fn array_sectors(numbers: Numbers) -> u64 {
+    match numbers.sector {
+        4096 => 4,
+        _ => (numbers.entries as u64).wrapping_div(4),
+    }
+}
+
+// An array, filled up to whole sectors.
+fn push_array(image: &mut Vec<u8>, numbers: Numbers, array: &[u8]) -> Result<(), Fail> {
+    let whole = (array_sectors(numbers) as usize).wrapping_mul(numbers.sector);
+    image.extend_from_slice(array)?;
+    pad(image, whole.wrapping_sub(array.len()))
+}
+
 fn array(alloc: Global, numbers: Numbers) -> Result<Vec<u8>, Fail> {
     let (slot, start, stop) = numbers.second;
     let mut array = Vec::new(alloc);
-    push_entry(&mut array, numbers.start, numbers.stop)?;
+    array.resize(numbers.slot.wrapping_mul(ENTRY), 0)?;
+    push_entry(&mut array, numbers.kind, numbers.start, numbers.stop)?;
     if slot != 0 {
         array.resize(slot.wrapping_mul(ENTRY), 0)?;
-        push_entry(&mut array, start, stop)?;
+        push_entry(&mut array, numbers.kind, start, stop)?;
     }
-    array.resize(ENTRIES * ENTRY, 0)?;
+    array.resize(numbers.entries.wrapping_mul(ENTRY), 0)?;
     Ok(array)
 }
 
-fn push_entry(array: &mut Vec<u8>, start: u64, stop: u64) -> Result<(), Fail> {
-    array.extend_from_slice(&ESP)?;
+fn push_entry(array: &mut Vec<u8>, kind: [u8; 16], start: u64, stop: u64) -> Result<(), Fail> {
+    array.extend_from_slice(&kind)?;
     array.extend_from_slice(&ID)?;
     array.extend_from_slice(&start.to_le_bytes())?;
     array.extend_from_slice(&stop.to_le_bytes())?;
@@ -138,7 +163,7 @@ fn push_header(
     image.extend_from_slice(&size)?;
     image.extend_from_slice(&crc.value().to_le_bytes())?;
     image.extend_from_slice(rest.as_slice())?;
-    pad(image, 420)
+    pad(image, numbers.sector.wrapping_sub(92))
 }
 
 fn crc_of(bytes: &[u8]) -> u32 {

@@ -1,6 +1,6 @@
 //! `show`.
 
-use crate::images::{Numbers, esp_image, other_table};
+use crate::images::{ESP, Numbers, SWAP, esp_image, other_table};
 use rp_base::List;
 use rp_cli::run;
 use rp_disk::MemDisk;
@@ -10,9 +10,13 @@ use std::process::Abort;
 use std::test::Fail;
 
 const ESP_64_MIB: Numbers = Numbers {
+    sector: 512,
+    entries: 128,
     end: 131_071,
     first: 2048,
     last: 131_038,
+    slot: 0,
+    kind: ESP,
     start: 2048,
     stop: 22_527,
     second: (0, 0, 0),
@@ -30,6 +34,26 @@ const ESP_64_KIB: Numbers = Numbers {
     ..ESP_64_MIB
 };
 
+// Sectors of 4,096 bytes: 16,384 of them, four for an array.
+const ESP_OF_4096: Numbers = Numbers {
+    sector: 4096,
+    end: 16_383,
+    first: 256,
+    last: 16_378,
+    start: 256,
+    stop: 2815,
+    ..ESP_64_MIB
+};
+
+const SWAP_OF_256: Numbers = Numbers {
+    entries: 256,
+    last: 131_006,
+    slot: 200,
+    kind: SWAP,
+    count: 256,
+    ..ESP_64_MIB
+};
+
 const MIB_64: usize = 64 << 20;
 
 const BACKUP_ARRAY: usize = 131_039 * 512;
@@ -37,6 +61,20 @@ const BACKUP_ARRAY: usize = 131_039 * 512;
 const TABLE_64_MIB: &str =
     "table primary sectors 131072 usable 2048-131038 disk aaaaaaaa-bbbb-4ccc-8ddd-eeeeeeeeeeee
 0 esp start 2048 size 20480 id 11111111-2222-4333-8444-555555555555 attrs 0000000000000000 name \"EFI\"
+copies primary=same backup=same mbr=same
+";
+
+const JSON_64_MIB: &str = "{\"backup\":\"same\",\"disk\":\"aaaaaaaa-bbbb-4ccc-8ddd-eeeeeeeeeeee\",\"mbr\":\"same\",\"origin\":\"primary\",\"primary\":\"same\",\"rows\":[{\"attrs\":\"0000000000000000\",\"id\":\"11111111-2222-4333-8444-555555555555\",\"name\":\"EFI\",\"size\":20480,\"slot\":0,\"start\":2048,\"type\":\"esp\"}],\"sectors\":131072,\"usable\":[2048,131038]}\n";
+
+const TABLE_OF_4096: &str =
+    "table primary sectors 131072 usable 2048-131031 disk aaaaaaaa-bbbb-4ccc-8ddd-eeeeeeeeeeee
+0 esp start 2048 size 20480 id 11111111-2222-4333-8444-555555555555 attrs 0000000000000000 name \"EFI\"
+copies primary=same backup=same mbr=same
+";
+
+const TABLE_OF_256: &str =
+    "table primary sectors 131072 usable 2048-131006 disk aaaaaaaa-bbbb-4ccc-8ddd-eeeeeeeeeeee
+200 swap start 2048 size 20480 id 11111111-2222-4333-8444-555555555555 attrs 0000000000000000 name \"EFI\"
 copies primary=same backup=same mbr=same
 ";
 
@@ -93,18 +131,30 @@ fn rows(rt: HostRuntime) -> Result<(), Fail> {
         GOOD,
         SMALL,
         Case {
-            what: "no image",
-            words: "show",
-            status: 2,
-            printed: "error 2 words\n",
-            ..SMALL
+            what: "JSON",
+            words: "show --json=short --sector-size=512 image",
+            printed: JSON_64_MIB,
+            ..GOOD
         },
         Case {
-            what: "an option",
-            words: "show -x",
-            status: 2,
-            printed: "error 2 words\n",
-            ..SMALL
+            what: "sectors of 4,096 bytes",
+            numbers: ESP_OF_4096,
+            words: "show --sector-size=4096 image",
+            printed: TABLE_OF_4096,
+            ..GOOD
+        },
+        Case {
+            what: "a table of sectors of 512 bytes, with sectors of 4,096",
+            words: "show --sector-size=4096 --json=off image",
+            status: 4,
+            printed: "error 4 NoTable\n",
+            ..GOOD
+        },
+        Case {
+            what: "256 entries",
+            numbers: SWAP_OF_256,
+            printed: TABLE_OF_256,
+            ..GOOD
         },
         Case {
             what: "the length fails",
@@ -168,6 +218,30 @@ fn rows(rt: HostRuntime) -> Result<(), Fail> {
 }
 
 #[test]
+fn words_that_are_not_canonical(rt: HostRuntime) -> Result<(), Fail> {
+    for words in [
+        "show",
+        "show -x",
+        "show --json=off --json=off image",
+        "show --json= image",
+        "show --sector-size=1024 image",
+        "show image --json=short",
+        "show --empty=allow image",
+        "plan image",
+    ] {
+        let case = Case {
+            what: words,
+            words,
+            status: 2,
+            printed: "error 2 words\n",
+            ..SMALL
+        };
+        check(&rt, case)?;
+    }
+    Ok(())
+}
+
+#[test]
 fn hostile_images(rt: HostRuntime) -> Result<(), Fail> {
     for (second, printed) in [
         ((4, 22_527, 30_000), "error 4 Overlap 0 4\n"),
@@ -198,6 +272,14 @@ fn hostile_images(rt: HostRuntime) -> Result<(), Fail> {
             },
             4,
             "error 4 EntryCount 4294967295 128\n",
+        ),
+        (
+            Numbers {
+                count: 127,
+                ..ESP_64_MIB
+            },
+            4,
+            "error 4 EntryCount 127 128\n",
         ),
         (
             Numbers {
