@@ -18,6 +18,7 @@ line_of refusal =
     if refusal.status == exit.memory then []
     else codes "error " ++ decimal refusal.status ++ flat_map behind_blank refusal.words ++ codes "\n"
 
+-- the refusals of words that aren't canonical, of a disk that failed, and of want of memory, which prints nothing
 abbrev pub words_refusal : Refusal
 words_refusal = record { status = exit.words; words = codes "words" ∷ [] }
 
@@ -27,6 +28,7 @@ disk_refusal = record { status = exit.disk; words = codes "disk" ∷ [] }
 abbrev pub memory_refusal : Refusal
 memory_refusal = record { status = exit.memory; words = [] }
 
+-- the refusal of an image, with these words
 abbrev pub image_refusal : List (List ℕ) → Refusal
 image_refusal words = record { status = exit.image; words = words }
 

@@ -11,6 +11,7 @@ use Rattle.rp_types.specs.Guids.{guid_text}
 use Rattle.rp_report.specs.Names.{name_text}
 use Rattle.rp_report.specs.Tables.{kind_text, mbr_word, origin_text, same_text}
 
+-- a number without a fraction
 abbrev pub integer : ℕ → Data
 integer n = number (unsigned n)
 
@@ -39,5 +40,6 @@ seen_data seen = object
     (member (codes "usable") (array (item (integer seen.shown.first) (item (integer seen.shown.last) no_items)))
     no_members))))))))
 
+-- the object, and the line's end
 unfoldable pub show_json : Seen → List ℕ
 show_json seen = compact_text (seen_data seen) ++ codes "\n"
