@@ -1,0 +1,6 @@
+pub mod Tree
+pub mod Order
+pub mod Puts
+pub mod Room
+pub mod Builder
+pub mod Lending
