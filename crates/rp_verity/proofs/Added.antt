@@ -1,5 +1,5 @@
 -- What was put by one call and then by another.
-use Rattle.std.proofs.Common.{◌≡◌, ℕ, zero, suc, List, [], ◌∷◌, ◌++◌, Option, Some, None, Result, Ok, Err, take, refl, sym, ◌∙◌, ap, append_assoc, append-nil, OnOk, OnErr, IfOk}
+use Rattle.std.proofs.Common.{◌≡◌, ℕ, zero, suc, List, [], ◌∷◌, ◌++◌, Option, Some, None, Result, Ok, Err, take, sym, ◌∙◌, ap, append_assoc, append-nil, OnOk, OnErr, IfOk}
 use Rattle.rp_verity.specs.Puts.{Added, AddedPart, AddedSome}
 
 pub on_ok : {T E : Type 0} {P Q : Type 0} (r : Result T E) → (P → Q) → OnOk r P → OnOk r Q

@@ -1,5 +1,5 @@
 -- Adding a digest to the levels of a room, case by case.
-use Rattle.std.proofs.Common.{◌≡◌, ◌≢◌, ℕ, zero, suc, ◌+◌, ◌-◌, ◌*◌, ◌/◌, ◌%◌, ◌<◌, ◌≤◌, ◌==◌, List, [], ◌∷◌, ◌++◌, Option, Some, None, Result, Ok, Err, IsErr, length, map, take, drop, replicate, if◌then◌else◌, refl, sym, ◌∙◌, ap, eq-eqb, append-nil, arith, length-append}
+use Rattle.std.proofs.Common.{◌≡◌, ◌≢◌, ℕ, suc, ◌+◌, ◌*◌, ◌/◌, ◌%◌, ◌<◌, List, [], ◌∷◌, ◌++◌, Option, Some, None, Result, Ok, Err, IsErr, length, drop, replicate, refl, sym, ◌∙◌, ap, eq-eqb, append-nil, arith, length-append}
 use Rattle.std.proofs.lemmas.List.{take_at, drop_at, length-replicate, map-append}
 use Rattle.std.proofs.lemmas.List.Elements.{All-drop}
 use Rattle.std.proofs.lemmas.Bool.{ne_eqb}
@@ -7,9 +7,9 @@ use Rattle.rp_base.specs.declared.faults.Failed.{Failed}
 use Rattle.rp_verity.specs.Tree.{digest, hash_block, runs}
 use Rattle.rp_verity.specs.Order.{place_of}
 use Rattle.rp_verity.specs.Puts.{Added, AddedPart}
-use Rattle.rp_verity.specs.Room.{Adds, AreDigests, IsDigest, Holds, full_level, full_puts, full_raised, full_tops, last_run, pending, placed_at}
+use Rattle.rp_verity.specs.Room.{Adds, AreDigests, IsDigest, Holds, full_level, full_puts, full_raised, full_tops, pending, placed_at}
 use Rattle.rp_verity.proofs.LevelLemmas.{full_level-full, full_level-short, last_run-push, length-pending, pending-full, pending-short}
-use Rattle.rp_verity.proofs.Blocks.{hash_block-nil, hash_block-push, length-hash_block, are_digests}
+use Rattle.rp_verity.proofs.Blocks.{hash_block-nil, hash_block-push}
 use Rattle.rp_verity.proofs.Added.{added_more, added_none, if_ok, on_err, on_ok, part_first, part_more}
 
 -- the lowest level's block, with the levels above it behind

@@ -1,5 +1,5 @@
 -- Closing the levels of a room, case by case.
-use Rattle.std.proofs.Common.{◌≡◌, ◌≢◌, ℕ, zero, suc, ◌+◌, ◌-◌, ◌*◌, ◌/◌, ◌%◌, ◌<◌, ◌≤◌, ◌==◌, List, [], ◌∷◌, ◌++◌, Option, Some, None, Result, Ok, Err, IsErr, length, map, take, drop, replicate, if◌then◌else◌, refl, sym, ◌∙◌, ap, arith, length-append, eq-eqb, append-nil}
+use Rattle.std.proofs.Common.{◌≡◌, ◌≢◌, ℕ, suc, ◌+◌, ◌*◌, ◌/◌, ◌%◌, List, [], ◌∷◌, ◌++◌, Option, Some, None, Result, Ok, Err, IsErr, length, refl, ◌∙◌, arith, length-append, eq-eqb, append-nil}
 use Rattle.std.specs.Option.{option_to_list}
 use Rattle.std.proofs.lemmas.List.{map-append}
 use Rattle.std.proofs.lemmas.Bool.{ne_eqb}
@@ -7,7 +7,7 @@ use Rattle.rp_base.specs.declared.faults.Failed.{Failed}
 use Rattle.rp_verity.specs.Tree.{digest, hash_block, level, raised, runs, tops}
 use Rattle.rp_verity.specs.Order.{place_of}
 use Rattle.rp_verity.specs.Puts.{Added, AddedPart}
-use Rattle.rp_verity.specs.Room.{AreDigests, Closes, Holds, end_puts, full_level, full_raised, full_tops, last_puts, last_run, pending, placed_at, rest_puts}
+use Rattle.rp_verity.specs.Room.{AreDigests, Closes, end_puts, full_level, full_raised, full_tops, last_puts, last_run, pending, placed_at, rest_puts}
 use Rattle.rp_verity.proofs.LevelLemmas.{last_run-push, last_run-rest, level-full, level-push, level-rest}
 use Rattle.rp_verity.proofs.Added.{added_more, added_none, if_ok, on_err, on_ok, part_first, part_more}
 use Rattle.rp_verity.proofs.Adding.{placed_block, room_above, room_lowest}

@@ -6,3 +6,5 @@ pub mod Closing
 pub mod ShapeLemmas
 pub mod TreeLemmas
 pub mod Taking
+pub mod Filling
+pub mod Sourced

@@ -1,5 +1,5 @@
 -- How many levels a tree has and how many blocks, counted a level at a time.
-use Rattle.std.proofs.Common.{◌≡◌, ◌≢◌, ℕ, zero, suc, ◌+◌, ◌-◌, ◌*◌, ◌/◌, ◌%◌, ◌^◌, ◌<◌, ◌≤◌, ◌==◌, Bool, true, false, List, [], ◌∷◌, ◌++◌, inl, inr, length, map, refl, sym, ◌∙◌, ap, arith, eq-eqb, length-append}
+use Rattle.std.proofs.Common.{◌≡◌, ◌≢◌, ℕ, zero, suc, ◌+◌, ◌-◌, ◌/◌, ◌^◌, ◌<◌, ◌≤◌, ◌==◌, Bool, true, false, List, ◌∷◌, inl, inr, length, map, refl, sym, ◌∙◌, ap, arith, eq-eqb, length-append}
 use Rattle.std.specs.Prelude.{find, sum, unwrap_or}
 use Rattle.std.proofs.Math.Nat.{div-div-eq-div-mul, pow-suc, pow-succ', pow-zero, div-one}
 use Rattle.std.proofs.lemmas.Bool.{ne_eqb}

@@ -1,9 +1,8 @@
 -- What a builder has taken: at first, with one block more, and at the end.
-use Rattle.std.proofs.Common.{◌≡◌, ◌≢◌, ℕ, zero, suc, ◌+◌, ◌-◌, ◌*◌, ◌/◌, ◌^◌, ◌<◌, ◌≤◌, List, [], ◌∷◌, ◌++◌, Option, Some, None, length, map, take, drop, replicate, get_or, refl, sym, ◌∙◌, ap, arith, append-nil, length-append}
-use Rattle.std.specs.Option.{option_to_list}
+use Rattle.std.proofs.Common.{◌≡◌, ℕ, zero, suc, ◌+◌, ◌-◌, ◌*◌, ◌/◌, ◌^◌, ◌≤◌, List, [], ◌∷◌, ◌++◌, length, map, take, drop, replicate, get_or, refl, sym, ◌∙◌, ap, arith, append-nil, length-append}
 use Rattle.std.proofs.lemmas.List.{drop-replicate, length-map, map-append, map_push, nil_from_length, same_from_push, take-replicate}
 use Rattle.rp_base.specs.Trees.{levels}
-use Rattle.rp_verity.specs.Tree.{digest, hash_block, root_hash, stored, stored_tree, tops}
+use Rattle.rp_verity.specs.Tree.{digest, root_hash, stored_tree, tops}
 use Rattle.rp_verity.specs.Order.{full_with, left_over}
 use Rattle.rp_verity.specs.Puts.{placed}
 use Rattle.rp_verity.specs.Room.{Holds, full_level, full_puts, full_tops, pending, rest_puts}

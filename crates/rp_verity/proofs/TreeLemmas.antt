@@ -1,11 +1,10 @@
 -- What the builder puts are blocks of the stored tree, whatever data blocks come still.
-use Rattle.std.proofs.Common.{◌≡◌, ◌≢◌, ℕ, zero, suc, ◌+◌, ◌-◌, ◌*◌, ◌/◌, ◌%◌, ◌<◌, ◌≤◌, ◌==◌, inl, inr, List, [], ◌∷◌, ◌++◌, length, map, take, drop, get_or, if◌then◌else◌, refl, sym, ◌∙◌, ap, arith, eq-eqb, length-append, length-drop}
+use Rattle.std.proofs.Common.{◌≡◌, ℕ, zero, suc, ◌+◌, ◌-◌, ◌*◌, ◌/◌, ◌%◌, ◌<◌, ◌≤◌, inl, inr, List, [], ◌∷◌, ◌++◌, length, map, take, drop, get_or, refl, sym, ◌∙◌, ap, arith, length-append, length-drop}
 use Rattle.std.specs.Prelude.{All}
 use Rattle.std.proofs.lemmas.Bool.Decides.{eqb_tells}
-use Rattle.std.proofs.lemmas.List.{take_all, take-append-drop, get_or_append_left, get_or-append_right, drop-map, length-map, map-append, take-map}
+use Rattle.std.proofs.lemmas.List.{take_all, take-append-drop, get_or_append_left, get_or-append_right, length-map, take-map}
 use Rattle.std.proofs.lemmas.List.Elements.{All-cons, All-head, All-nil, All-tail, All-weaker}
 use Rattle.std.proofs.lemmas.List.FromFn.{get_or-map-range_with_len, take-map-range_with_len}
-use Rattle.std.specs.List.{range_with_len}
 use Rattle.rp_verity.specs.Tree.{digest, hash_block, level, raised, run, runs, stored}
 use Rattle.rp_verity.specs.Order.{blocks_over, full_with, last_blocks, left_over, place_of}
 use Rattle.rp_verity.specs.Puts.{placed}

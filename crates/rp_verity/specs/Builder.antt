@@ -1,5 +1,5 @@
 -- What a builder has taken, and how its numbers fit one another.
-use Rattle.std.specs.Prelude.{ℕ, ◌≡◌, ◌≤◌, ◌+◌, ◌-◌, ◌*◌, ◌/◌, ◌^◌, List, ◌∷◌, [], ◌++◌, length, map}
+use Rattle.std.specs.Prelude.{ℕ, ◌≡◌, ◌≤◌, ◌-◌, ◌*◌, ◌/◌, ◌^◌, List, ◌∷◌, [], ◌++◌, length, map}
 use Rattle.sha2.specs.Hashers.{Holds256}
 use Rattle.rp_base.specs.Trees.{levels}
 use Rattle.rp_verity.specs.declared.builder.Builder.{Builder}

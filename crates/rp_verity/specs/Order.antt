@@ -1,6 +1,6 @@
 -- The order in which the blocks of a tree become complete while its data blocks come one by one (own). A block is named by its
 -- place in the stored order.
-use Rattle.std.specs.Prelude.{ℕ, zero, suc, ◌+◌, ◌-◌, ◌/◌, ◌%◌, ◌==◌, List, [], ◌∷◌, ◌++◌, length, map, if◌then◌else◌, slice_index_or}
+use Rattle.std.specs.Prelude.{ℕ, zero, suc, ◌+◌, ◌-◌, ◌%◌, ◌==◌, List, [], ◌∷◌, ◌++◌, if◌then◌else◌}
 use Rattle.std.specs.List.{flat_map, range_with_len}
 use Rattle.rp_base.specs.Trees.{levels}
 use Rattle.rp_verity.specs.Tree.{runs}

@@ -3,7 +3,7 @@ use Rattle.std.specs.Prelude.{ℕ, zero, suc, ◌≡◌, ◌+◌, ◌-◌, ◌*�
 use Rattle.std.specs.List.{range_with_len}
 use Rattle.std.specs.Option.{option_to_list}
 use Rattle.rp_base.specs.declared.faults.Failed.{Failed}
-use Rattle.rp_verity.specs.Tree.{digest, hash_block, level, raised, run, runs, tops}
+use Rattle.rp_verity.specs.Tree.{digest, hash_block, raised, run, runs, tops}
 use Rattle.rp_verity.specs.Order.{place_of}
 use Rattle.rp_verity.specs.Puts.{Added, AddedPart}
 

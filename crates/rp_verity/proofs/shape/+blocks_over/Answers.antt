@@ -1,5 +1,5 @@
 -- The definition, a level at a time.
-use Rattle.std.proofs.Common.{◌≡◌, ◌≢◌, ◌+◌, ◌-◌, ℕ, zero, suc, ◌∙◌, sym, arith, refl}
+use Rattle.std.proofs.Common.{◌≡◌, ◌≢◌, ◌+◌, ◌-◌, ℕ, zero, suc, arith, refl}
 use Rattle.rp_verity.specs.Tree.{runs}
 use Rattle.rp_verity.specs.Order.{blocks_over}
 use Rattle.rp_verity.proofs.shape.+blocks_over.Goals as goal

@@ -1,5 +1,5 @@
 -- The superblock's block and the blocks of the levels.
-use Rattle.std.proofs.Common.{◌≡◌, ◌+◌, ◌*◌, ◌≤◌, ◌<◌, ◌/◌, ◌∙◌, sym, ap, ℕ, refl, arith}
+use Rattle.std.proofs.Common.{◌*◌, ◌≤◌, refl, arith}
 use Rattle.std.proofs.Math.Nat.{mul-le-mul_right}
 use Rattle.rp_verity.specs.Tree.{runs}
 use Rattle.rp_verity.proofs.ShapeLemmas.{hash_blocks-over}

@@ -1,5 +1,5 @@
 -- The loop divides once for each level, and ends at the first quotient that is 0.
-use Rattle.std.proofs.Common.{◌≡◌, ◌≢◌, ◌<◌, ◌≤◌, ◌+◌, ◌-◌, ◌/◌, ◌^◌, ℕ, inl, inr, sym, ◌∙◌, ap, below_more, arith, refl}
+use Rattle.std.proofs.Common.{◌≡◌, ◌≢◌, ◌<◌, ◌≤◌, ◌-◌, ◌/◌, ◌^◌, ℕ, inl, inr, sym, ◌∙◌, ap, below_more, arith}
 use Rattle.std.proofs.lemmas.Bool.{cases_lt}
 use Rattle.std.proofs.Math.Nat.{div-one}
 use Rattle.rp_verity.proofs.ShapeLemmas.{div-pow-more, levels_is}

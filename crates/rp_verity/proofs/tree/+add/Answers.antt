@@ -1,10 +1,10 @@
 -- Each way out of `add` is a case of what adding does.
-use Rattle.std.proofs.Common.{◌≡◌, ◌≢◌, ℕ, suc, ◌+◌, ◌-◌, ◌*◌, ◌/◌, ◌%◌, ◌<◌, List, [], ◌∷◌, length, replicate, refl, sym, ◌∙◌, ap, arith}
+use Rattle.std.proofs.Common.{◌≡◌, ℕ, suc, ◌+◌, ◌-◌, ◌*◌, ◌/◌, ◌%◌, ◌<◌, List, [], ◌∷◌, length, replicate, ◌∙◌, ap, arith}
 use Rattle.std.proofs.lemmas.List.{length-map}
-use Rattle.rp_verity.specs.Tree.{digest, runs}
+use Rattle.rp_verity.specs.Tree.{digest}
 use Rattle.rp_verity.specs.Order.{place_of}
 use Rattle.rp_verity.specs.Puts.{Added, AddedPart}
-use Rattle.rp_verity.specs.Room.{Adds, full_level, full_raised, placed_at}
+use Rattle.rp_verity.specs.Room.{full_level, full_raised, placed_at}
 use Rattle.rp_verity.proofs.LevelLemmas.{length-full_level}
 use Rattle.rp_verity.proofs.Blocks.{are_digests, length-digest}
 use Rattle.rp_verity.proofs.Adding.{adds_failed, adds_more, adds_part, adds_top}

@@ -1,12 +1,12 @@
 -- Each way out of `close` is a case of what closing does.
-use Rattle.std.proofs.Common.{◌≡◌, ◌≢◌, ℕ, suc, ◌+◌, ◌-◌, ◌*◌, ◌/◌, ◌%◌, ◌<◌, List, [], ◌∷◌, ◌++◌, Option, Some, None, length, refl, sym, ◌∙◌, ap, arith, append-nil, length-append}
+use Rattle.std.proofs.Common.{◌≡◌, ℕ, suc, ◌+◌, ◌-◌, ◌/◌, ◌%◌, List, [], ◌∷◌, ◌++◌, Option, Some, None, length, sym, ◌∙◌, ap, arith, append-nil, length-append}
 use Rattle.std.specs.Option.{option_to_list}
 use Rattle.std.proofs.lemmas.List.{length-map}
 use Rattle.std.proofs.lemmas.List.Elements.{All-cons, All-head, All-nil}
-use Rattle.rp_verity.specs.Tree.{digest, runs}
+use Rattle.rp_verity.specs.Tree.{digest}
 use Rattle.rp_verity.specs.Order.{place_of}
 use Rattle.rp_verity.specs.Puts.{Added, AddedPart}
-use Rattle.rp_verity.specs.Room.{AreDigests, Closes, IsDigest, full_level, full_raised, placed_at}
+use Rattle.rp_verity.specs.Room.{IsDigest, full_level, full_raised}
 use Rattle.rp_verity.proofs.LevelLemmas.{length-full_level}
 use Rattle.rp_verity.proofs.Blocks.{are_digests, length-digest}
 use Rattle.rp_verity.proofs.Closing.{HasLast, closes_failed, closes_full, closes_more, closes_top, count_above, has_last-none, has_last-some}

@@ -1,5 +1,5 @@
 -- The hasher has the salt, then the block behind it.
-use Rattle.std.proofs.Common.{sym, ◌++◌}
+use Rattle.std.proofs.Common.{◌++◌}
 use Rattle.rp_verity.specs.Tree.{digest}
 use Rattle.rp_verity.proofs.tree.digest_of.Goals as goal
 

@@ -1,5 +1,5 @@
 -- What closing the levels does, said of blocks.
-use Rattle.std.proofs.Common.{◌≡◌, ◌-◌, ◌/◌, ◌^◌, ◌≤◌, ℕ, List, [], ◌++◌, length, map, sym, ◌∙◌, ap, arith, append-nil}
+use Rattle.std.proofs.Common.{◌≡◌, ◌-◌, ◌/◌, ◌^◌, ◌≤◌, ℕ, List, [], ◌++◌, length, map, sym, ◌∙◌, arith, append-nil}
 use Rattle.std.proofs.lemmas.List.{length-map}
 use Rattle.std.proofs.lemmas.List.Elements.{All-nil}
 use Rattle.rp_base.specs.Trees.{levels}

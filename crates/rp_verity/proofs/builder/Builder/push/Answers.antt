@@ -1,11 +1,9 @@
 -- What adding a digest does, said of blocks.
-use Rattle.std.proofs.Common.{◌≡◌, ◌+◌, ℕ, List, [], ◌∷◌, ◌++◌, length, map, Option, Some, None, sym, ◌∙◌, ap, arith, length-append}
+use Rattle.std.proofs.Common.{◌≡◌, ℕ, List, [], ◌∷◌, length, map, sym, ◌∙◌, ap, arith, length-append}
 use Rattle.std.proofs.lemmas.List.{length-map}
 use Rattle.sha2.specs.Hashers.{Holds256}
-use Rattle.rp_base.specs.Trees.{levels}
 use Rattle.rp_verity.specs.Tree.{digest}
-use Rattle.rp_verity.specs.Room.{full_puts, full_tops}
-use Rattle.rp_verity.proofs.Added.{on_err_always, on_ok_always}
+use Rattle.rp_verity.proofs.Added.{on_err_always}
 use Rattle.rp_verity.proofs.Blocks.{are_digests, length-digest}
 use Rattle.rp_verity.proofs.Taking.{digests_more, puts_taken, root_none, root_some}
 use Rattle.rp_verity.proofs.builder.Builder.push.Goals as goal
