@@ -47,7 +47,7 @@ unfolding pending
 placed_block digests new block each long held =
     let count : length (drop (128 * (length digests / 128)) digests) ≡ length digests % 128 = unfold pending in length-pending digests in
     hash_block-push (drop (128 * (length digests / 128)) digests) new block (32 * (length digests % 128))
-      (All-drop IsDigest (128 * (length digests / 128)) digests each) long (omega arith) held (ap (λ (k : ℕ). 32 * k) (sym count))
+    (All-drop IsDigest (128 * (length digests / 128)) digests each) long (omega arith) held (ap (λ (k : ℕ). 32 * k) (sym count))
 
 -- what becomes of the tops and the puts where the run isn't full yet
 short_tops : (salt : List ℕ) (n : ℕ) (digests : List (List ℕ)) (new : List ℕ) → length digests % 128 < 127
@@ -70,9 +70,9 @@ adds_part salt n total digests new block above after told each long whole after_
     let open_run : length (digests ++ new ∷ []) % 128 ≢ 0 = omega arith in
     record {
       held = λ held.
-        room_of salt n after above (digests ++ new ∷ []) after_whole
+          room_of salt n after above (digests ++ new ∷ []) after_whole
           (rw (pending-short digests new short)
-            (written ∙ placed_block digests new block each long (room_lowest salt n block above digests whole held)))
+          (written ∙ placed_block digests new block each long (room_lowest salt n block above digests whole held)))
           (rw (full_level-short digests new short) (room_above salt n block above digests whole held));
       top = λ held. short_tops salt n digests new short;
       puts = λ held. rw (short_puts salt n total (digests ++ new ∷ []) open_run) (added_none told);
@@ -82,22 +82,29 @@ adds_part salt n total digests new block above after told each long whole after_
 -- what is put where the run is full
 full_puts-full : (salt : List ℕ) (n total : ℕ) (digests : List (List ℕ)) (new : List ℕ) → length digests % 128 ≡ 127
     → full_puts salt (suc n) total (digests ++ new ∷ [])
-      ≡ (place_of n total (length digests + 1), hash_block (pending digests ++ new ∷ []))
-        ∷ full_puts salt n (runs total) (full_raised salt digests ++ digest salt (hash_block (pending digests ++ new ∷ [])) ∷ [])
+    ≡ (place_of n total (length digests + 1), hash_block (pending digests ++ new ∷ []))
+    ∷ full_puts salt n (runs total) (full_raised salt digests ++ digest salt (hash_block (pending digests ++ new ∷ [])) ∷ [])
 unfolding full_puts
 full_puts-full salt n total digests new full =
     let longer : length (digests ++ new ∷ []) ≡ length digests + 1 = length-append digests (new ∷ []) in
     let filled : (length digests + 1) % 128 ≡ 0 = omega arith in
-    rw (longer, eq-eqb ((length digests + 1) % 128) 0 filled, last_run-push digests new, full_level-full digests new full,
-      map-append (digest salt) (full_level digests) (hash_block (pending digests ++ new ∷ []) ∷ [])) refl
+    rw (
+      longer,
+      eq-eqb ((length digests + 1) % 128) 0 filled,
+      last_run-push digests new,
+      full_level-full digests new full,
+      map-append (digest salt) (full_level digests) (hash_block (pending digests ++ new ∷ []) ∷ []),
+    ) refl
 
 full_tops-full : (salt : List ℕ) (n : ℕ) (digests : List (List ℕ)) (new : List ℕ) → length digests % 128 ≡ 127
     → full_tops salt (suc n) (digests ++ new ∷ [])
-      ≡ full_tops salt n (full_raised salt digests ++ digest salt (hash_block (pending digests ++ new ∷ [])) ∷ [])
+    ≡ full_tops salt n (full_raised salt digests ++ digest salt (hash_block (pending digests ++ new ∷ [])) ∷ [])
 unfolding full_tops
 full_tops-full salt n digests new full =
-    rw (full_level-full digests new full,
-      map-append (digest salt) (full_level digests) (hash_block (pending digests ++ new ∷ []) ∷ [])) refl
+    rw (
+      full_level-full digests new full,
+      map-append (digest salt) (full_level digests) (hash_block (pending digests ++ new ∷ []) ∷ []),
+    ) refl
 
 full_tops-suc : (salt : List ℕ) (n : ℕ) (digests : List (List ℕ)) → full_tops salt (suc n) digests ≡ full_tops salt n (full_raised salt digests)
 unfolding full_tops
@@ -116,9 +123,9 @@ adds_failed salt n total digests new block above after then' told now (Err e) er
       top = λ held. tt;
       puts = λ held. tt;
       cut = λ held.
-        let b : after ≡ hash_block (pending digests ++ new ∷ []) =
+          let b : after ≡ hash_block (pending digests ++ new ∷ []) =
           written ∙ placed_block digests new block each long (room_lowest salt n block above digests whole held) in
-        rw (full_puts-full salt n total digests new full, ← b) (part_first told now _ _ part);
+          rw (full_puts-full salt n total digests new full, ← b) (part_first told now _ _ part);
     }
 
 -- the run is full: its block is put, and its digest is added to the level above
@@ -134,30 +141,30 @@ adds_more salt n total digests new block above after up above' told mid now resu
     let filled : length (digests ++ new ∷ []) % 128 ≡ 0 = omega arith in
     record {
       held = λ held.
-        let b : after ≡ hash_block (pending digests ++ new ∷ []) =
+          let b : after ≡ hash_block (pending digests ++ new ∷ []) =
           written ∙ placed_block digests new block each long (room_lowest salt n block above digests whole held) in
-        let u : up ≡ digest salt (hash_block (pending digests ++ new ∷ [])) = raised ∙ ap (digest salt) b in
-        on_ok result
+          let u : up ≡ digest salt (hash_block (pending digests ++ new ∷ [])) = raised ∙ ap (digest salt) b in
+          on_ok result
           (λ there. room_of salt n (replicate 4096 0) above' (digests ++ new ∷ []) (length-replicate {A = ℕ} 4096 0)
-            (rw (pending-full (digests ++ new ∷ []) filled) (sym hash_block-nil))
-            (rw (full_level-full digests new full, map-append (digest salt) (full_level digests) (hash_block (pending digests ++ new ∷ []) ∷ []), ← u) there))
+          (rw (pending-full (digests ++ new ∷ []) filled) (sym hash_block-nil))
+          (rw (full_level-full digests new full, map-append (digest salt) (full_level digests) (hash_block (pending digests ++ new ∷ []) ∷ []), ← u) there))
           (rest.held (room_above salt n block above digests whole held));
       top = λ held.
-        let b : after ≡ hash_block (pending digests ++ new ∷ []) =
+          let b : after ≡ hash_block (pending digests ++ new ∷ []) =
           written ∙ placed_block digests new block each long (room_lowest salt n block above digests whole held) in
-        let u : up ≡ digest salt (hash_block (pending digests ++ new ∷ [])) = raised ∙ ap (digest salt) b in
-        if_ok result (λ top there. rw (full_tops-full salt n digests new full, ← u, full_tops-suc salt n digests) there)
+          let u : up ≡ digest salt (hash_block (pending digests ++ new ∷ [])) = raised ∙ ap (digest salt) b in
+          if_ok result (λ top there. rw (full_tops-full salt n digests new full, ← u, full_tops-suc salt n digests) there)
           (rest.top (room_above salt n block above digests whole held));
       puts = λ held.
-        let b : after ≡ hash_block (pending digests ++ new ∷ []) =
+          let b : after ≡ hash_block (pending digests ++ new ∷ []) =
           written ∙ placed_block digests new block each long (room_lowest salt n block above digests whole held) in
-        let u : up ≡ digest salt (hash_block (pending digests ++ new ∷ [])) = raised ∙ ap (digest salt) b in
-        on_ok result (λ there. rw (full_puts-full salt n total digests new full, ← u, ← b) (added_more told mid now _ _ put there))
+          let u : up ≡ digest salt (hash_block (pending digests ++ new ∷ [])) = raised ∙ ap (digest salt) b in
+          on_ok result (λ there. rw (full_puts-full salt n total digests new full, ← u, ← b) (added_more told mid now _ _ put there))
           (rest.puts (room_above salt n block above digests whole held));
       cut = λ held.
-        let b : after ≡ hash_block (pending digests ++ new ∷ []) =
+          let b : after ≡ hash_block (pending digests ++ new ∷ []) =
           written ∙ placed_block digests new block each long (room_lowest salt n block above digests whole held) in
-        let u : up ≡ digest salt (hash_block (pending digests ++ new ∷ [])) = raised ∙ ap (digest salt) b in
-        on_err result (λ there. rw (full_puts-full salt n total digests new full, ← u, ← b) (part_more told mid now _ _ put there))
+          let u : up ≡ digest salt (hash_block (pending digests ++ new ∷ [])) = raised ∙ ap (digest salt) b in
+          on_err result (λ there. rw (full_puts-full salt n total digests new full, ← u, ← b) (part_more told mid now _ _ put there))
           (rest.cut (room_above salt n block above digests whole held));
     }

@@ -15,7 +15,7 @@ length-digest salt block = length-sha256 _
 pub are_digests : (salt : List ℕ) (blocks : List (List ℕ)) → AreDigests (map (digest salt) blocks)
 are_digests salt blocks =
     All-map IsDigest (digest salt) blocks
-      (All-from_get_or (λ block. IsDigest (digest salt block)) blocks [] (λ k below. length-digest salt (get_or blocks k [])))
+    (All-from_get_or (λ block. IsDigest (digest salt block)) blocks [] (λ k below. length-digest salt (get_or blocks k [])))
 
 pub length-concat : (digests : List (List ℕ)) → AreDigests digests → length (concat digests) ≡ 32 * length digests
 length-concat [] each = refl
@@ -31,8 +31,12 @@ concat-push (d ∷ digests) new = rw (concat-push digests new, append_assoc) ref
 pub length-hash_block : (digests : List (List ℕ)) → AreDigests digests → length digests ≤ 128 → length (hash_block digests) ≡ 4096
 unfolding hash_block
 length-hash_block digests each few =
-    omega (arith, length-append (concat digests) (replicate (4096 - 32 * length digests) 0), length-concat digests each,
-      length-replicate {A = ℕ} (4096 - 32 * length digests) 0)
+    omega (
+      arith,
+      length-append (concat digests) (replicate (4096 - 32 * length digests) 0),
+      length-concat digests each,
+      length-replicate {A = ℕ} (4096 - 32 * length digests) 0,
+    )
 
 -- a digest written behind those of a block
 pub hash_block-push : (digests : List (List ℕ)) (new block : List ℕ) (place : ℕ) → AreDigests digests → length new ≡ 32
@@ -45,9 +49,9 @@ hash_block-push digests new block place each long few held at =
     let front : take place block ≡ concat digests = rw held (take_at (concat digests) zeros place full) in
     let behind : drop place block ≡ zeros = rw held (drop_at (concat digests) zeros place full) in
     let left : 4096 - 32 * length digests - 32 ≡ 4096 - 32 * length (digests ++ new ∷ []) =
-      omega (arith, length-append digests (new ∷ [])) in
+    omega (arith, length-append digests (new ∷ [])) in
     let rest : drop (place + length new) block ≡ replicate (4096 - 32 * length (digests ++ new ∷ [])) 0 =
-      rw (long, ← drop-drop 32 place block, behind, drop-replicate, left) refl in
+    rw (long, ← drop-drop 32 place block, behind, drop-replicate, left) refl in
     rw (front, rest, concat-push digests new) refl
 
 -- a block of no digests is zeros

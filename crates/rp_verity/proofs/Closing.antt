@@ -40,12 +40,12 @@ pub closes_full : (salt : List ℕ) (n : ℕ) (digests : List (List ℕ)) (block
 closes_full salt n digests block above told now result whole full rest =
     record {
       top = λ held. if_ok result
-        (λ top there. rw (append-nil, tops-suc salt n digests, full_tops-suc salt n digests, level-full digests full) (rw append-nil at there))
-        (rest.top (room_above salt n block above digests whole held));
+          (λ top there. rw (append-nil, tops-suc salt n digests, full_tops-suc salt n digests, level-full digests full) (rw append-nil at there))
+          (rest.top (room_above salt n block above digests whole held));
       puts = λ held. on_ok result (λ there. rw (rest_puts-full salt n digests full) there)
-        (rest.puts (room_above salt n block above digests whole held));
+          (rest.puts (room_above salt n block above digests whole held));
       cut = λ held. on_err result (λ there. rw (rest_puts-full salt n digests full) there)
-        (rest.cut (room_above salt n block above digests whole held));
+          (rest.cut (room_above salt n block above digests whole held));
     }
 
 -- the level's last block isn't full, or its last digest comes from below
@@ -121,9 +121,9 @@ closes_failed salt n total digests carried block above after told now (Err e) er
       top = λ held. tt;
       puts = λ held. tt;
       cut = λ held.
-        let b : after ≡ hash_block (last_run (digests ++ option_to_list carried)) =
+          let b : after ≡ hash_block (last_run (digests ++ option_to_list carried)) =
           last_is digests carried block after each has (room_lowest salt n block above digests whole held) in
-        rw (end_puts-last salt n digests carried has.open_run, last_puts-suc salt n (digests ++ option_to_list carried), all, ← b)
+          rw (end_puts-last salt n digests carried has.open_run, last_puts-suc salt n (digests ++ option_to_list carried), all, ← b)
           (part_first told now _ _ part);
     }
 
@@ -145,27 +145,27 @@ pub closes_more : (salt : List ℕ) (n total : ℕ) (digests : List (List ℕ)) 
 closes_more salt n total digests carried block above after up told mid now result each whole has all raised_up put rest =
     record {
       top = λ held.
-        let up_level : raised salt (digests ++ option_to_list carried) ≡ full_raised salt digests ++ up ∷ [] =
+          let up_level : raised salt (digests ++ option_to_list carried) ≡ full_raised salt digests ++ up ∷ [] =
           up_is salt digests carried block after up each has raised_up (room_lowest salt n block above digests whole held) in
-        if_ok result
+          if_ok result
           (λ top there. rw (tops-suc salt n (digests ++ option_to_list carried), up_level, full_tops-suc salt n digests) there)
           (rest.top (room_above salt n block above digests whole held));
       puts = λ held.
-        let up_level : raised salt (digests ++ option_to_list carried) ≡ full_raised salt digests ++ up ∷ [] =
+          let up_level : raised salt (digests ++ option_to_list carried) ≡ full_raised salt digests ++ up ∷ [] =
           up_is salt digests carried block after up each has raised_up (room_lowest salt n block above digests whole held) in
-        let b : after ≡ hash_block (last_run (digests ++ option_to_list carried)) =
+          let b : after ≡ hash_block (last_run (digests ++ option_to_list carried)) =
           last_is digests carried block after each has (room_lowest salt n block above digests whole held) in
-        on_ok result
+          on_ok result
           (λ there. rw (end_puts-last salt n digests carried has.open_run, last_puts-suc salt n (digests ++ option_to_list carried), all, ← b, up_level)
-            (added_more told mid now _ _ put there))
+          (added_more told mid now _ _ put there))
           (rest.puts (room_above salt n block above digests whole held));
       cut = λ held.
-        let up_level : raised salt (digests ++ option_to_list carried) ≡ full_raised salt digests ++ up ∷ [] =
+          let up_level : raised salt (digests ++ option_to_list carried) ≡ full_raised salt digests ++ up ∷ [] =
           up_is salt digests carried block after up each has raised_up (room_lowest salt n block above digests whole held) in
-        let b : after ≡ hash_block (last_run (digests ++ option_to_list carried)) =
+          let b : after ≡ hash_block (last_run (digests ++ option_to_list carried)) =
           last_is digests carried block after each has (room_lowest salt n block above digests whole held) in
-        on_err result
+          on_err result
           (λ there. rw (end_puts-last salt n digests carried has.open_run, last_puts-suc salt n (digests ++ option_to_list carried), all, ← b, up_level)
-            (part_more told mid now _ _ put there))
+          (part_more told mid now _ _ put there))
           (rest.cut (room_above salt n block above digests whole held));
     }

@@ -38,15 +38,15 @@ filled-none bytes len k blocks below past =
     let short : m ≤ 4096 * k = omega (arith, length-take len bytes) in
     let size : 4096 * k + 4096 - 4096 * k ≡ 4096 = omega arith in
     let rest : drop (4096 * k) (front ++ replicate (4096 * blocks - m) 0) ≡ replicate (4096 * blocks - m - (4096 * k - m)) 0 =
-      drop-past front (replicate (4096 * blocks - m) 0) (4096 * k) (4096 * k - m) (omega arith)
-      ∙ drop-replicate (4096 * k - m) (4096 * blocks - m) 0 in
+    drop-past front (replicate (4096 * blocks - m) 0) (4096 * k) (4096 * k - m) (omega arith)
+    ∙ drop-replicate (4096 * k - m) (4096 * blocks - m) 0 in
     sym (rw (size, rest) (take-replicate 4096 (4096 * blocks - m - (4096 * k - m)) 0 (omega arith)))
 
 -- a block of which some bytes are read
 pub filled-part : (bytes : List ℕ) (len k blocks size : ℕ) → k < blocks → len ≤ 4096 * blocks → size ≡ min (len - 4096 * k) 4096
     → size ≢ 0 → 4096 * k + size ≤ length bytes
     → slice_range bytes (4096 * k) (4096 * k + size) ++ replicate (4096 - size) 0
-      ≡ bytes_at (filled blocks (take len bytes)) (4096 * k) 4096
+    ≡ bytes_at (filled blocks (take len bytes)) (4096 * k) 4096
 filled-part bytes len k blocks size below few is_size some reaches =
     let at : ℕ = 4096 * k in
     let front : List ℕ = take len bytes in
@@ -56,27 +56,28 @@ filled-part bytes len k blocks size below few is_size some reaches =
     let count : at + size - at ≡ size = omega arith in
     let whole : at + 4096 - at ≡ 4096 = omega arith in
     let cut : drop at (front ++ replicate (4096 * blocks - m) 0) ≡ drop at front ++ replicate (4096 * blocks - m) 0 =
-      drop-append-le at front (replicate (4096 * blocks - m) 0) (omega arith) in
+    drop-append-le at front (replicate (4096 * blocks - m) 0) (omega arith) in
     let part : take size (drop at front) ≡ take size (drop at bytes) = front-part bytes len at size (omega arith) in
     let left : length (drop at front) ≡ m - at = length-drop at front in
     rw (count, whole, cut, ← part)
-      (elim (cases_lt size 4096) [
-        inl short ↦
+    (elim (cases_lt size 4096) [
+      | inl short ↦
           let end : length (drop at front) ≡ size = omega arith in
           let all : take size (drop at front) ≡ drop at front = take_all size (drop at front) (omega arith) in
           rw all
-            (sym (take-past (drop at front) (replicate (4096 * blocks - m) 0) 4096 (4096 - size) (omega arith)
-              ∙ ap (λ (rest : List ℕ). drop at front ++ rest) (take-replicate (4096 - size) (4096 * blocks - m) 0 (omega arith))))
+          (sym (take-past (drop at front) (replicate (4096 * blocks - m) 0) 4096 (4096 - size) (omega arith)
+          ∙ ap (λ (rest : List ℕ). drop at front ++ rest) (take-replicate (4096 - size) (4096 * blocks - m) 0 (omega arith))))
       | inr long ↦
           let full : size ≡ 4096 = omega arith in
-          rw full (append-nil (take 4096 (drop at front)) ∙ sym (take-append-le 4096 (drop at front) (replicate (4096 * blocks - m) 0) (omega arith))) ])
+          rw full (append-nil (take 4096 (drop at front)) ∙ sym (take-append-le 4096 (drop at front) (replicate (4096 * blocks - m) 0) (omega arith)))
+    ])
 
 -- what was read of a block, with zeros behind it
 pub filled-read : {T E : Type 0} (result : Result T E) (found : Option (List ℕ)) (len k size : ℕ) (part rest : List ℕ)
     → size ≡ min (len - 4096 * k) 4096 → size ≢ 0 → rest ≡ replicate (4096 - size) 0
     → OnOk result (Reads found (4096 * k) size part)
     → IfSome found (λ bytes. OnOk result ((blocks : ℕ) → k < blocks → len ≤ 4096 * blocks
-      → part ++ rest ≡ bytes_at (filled blocks (take len bytes)) (4096 * k) 4096))
+    → part ++ rest ≡ bytes_at (filled blocks (take len bytes)) (4096 * k) 4096))
 filled-read result None len k size part rest is_size some zeros read = tt
 filled-read (Err e) (Some bytes) len k size part rest is_size some zeros read = tt
 filled-read (Ok v) (Some bytes) len k size part rest is_size some zeros read =
@@ -87,19 +88,19 @@ pub source-read : {T E : Type 0} (result : Result T E) (told : Option (List Stor
     → size ≡ min (len - 4096 * k) 4096 → size ≢ 0 → rest ≡ replicate (4096 - size) 0
     → IfSome told (λ files. OnOk result (Reads (content files path) (4096 * k) size part))
     → IfSome told (λ files. IfSome (content files path) (λ bytes. OnOk result ((blocks : ℕ) → k < blocks → len ≤ 4096 * blocks
-      → part ++ rest ≡ bytes_at (filled blocks (take len bytes)) (4096 * k) 4096)))
+    → part ++ rest ≡ bytes_at (filled blocks (take len bytes)) (4096 * k) 4096)))
 source-read result None path len k size part rest is_size some zeros read = tt
 source-read result (Some files) path len k size part rest is_size some zeros read =
     filled-read result (content files path) len k size part rest is_size some zeros read
 
 none_of : (found : Option (List ℕ)) (len k : ℕ) (block : List ℕ) → len ≤ 4096 * k → block ≡ replicate 4096 0
     → IfSome found (λ bytes. (blocks : ℕ) → k < blocks → len ≤ 4096 * blocks
-      → block ≡ bytes_at (filled blocks (take len bytes)) (4096 * k) 4096)
+    → block ≡ bytes_at (filled blocks (take len bytes)) (4096 * k) 4096)
 none_of None len k block past zeros = tt
 none_of (Some bytes) len k block past zeros = λ blocks below few. zeros ∙ filled-none bytes len k blocks below past
 
 pub source-none : (told : Option (List Stored)) (path : List ℕ) (len k : ℕ) (block : List ℕ) → len ≤ 4096 * k → block ≡ replicate 4096 0
     → IfSome told (λ files. IfSome (content files path) (λ bytes. (blocks : ℕ) → k < blocks → len ≤ 4096 * blocks
-      → block ≡ bytes_at (filled blocks (take len bytes)) (4096 * k) 4096))
+    → block ≡ bytes_at (filled blocks (take len bytes)) (4096 * k) 4096))
 source-none None path len k block past zeros = tt
 source-none (Some files) path len k block past zeros = none_of (content files path) len k block past zeros

@@ -13,7 +13,7 @@ same_range f g a zero same = refl
 same_range f g a (suc n) same =
     let here : f a ≡ g a = same a (omega arith) in
     let rest : map f (range_with_len (a + 1) n) ≡ map g (range_with_len (a + 1) n) =
-      same_range f g (a + 1) n (λ k below. same k (omega arith)) in
+    same_range f g (a + 1) n (λ k below. same k (omega arith)) in
     rw (here, rest) refl
 
 pub length-level : (digests : List (List ℕ)) → length (level digests) ≡ runs (length digests)
@@ -45,12 +45,16 @@ level-push digests new =
     let longer : length (digests ++ new ∷ []) ≡ length digests + 1 = length-append digests (new ∷ []) in
     let count : runs (length (digests ++ new ∷ [])) ≡ q + 1 = omega arith in
     let tail : drop (128 * q) (digests ++ new ∷ []) ≡ drop (128 * q) digests ++ new ∷ [] =
-      drop-append-le (128 * q) digests (new ∷ []) (omega arith) in
+    drop-append-le (128 * q) digests (new ∷ []) (omega arith) in
     let short : length (drop (128 * q) digests ++ new ∷ []) ≤ 128 =
-      omega (arith, length-append (drop (128 * q) digests) (new ∷ []), length-drop (128 * q) digests) in
+    omega (arith, length-append (drop (128 * q) digests) (new ∷ []), length-drop (128 * q) digests) in
     let last : run (digests ++ new ∷ []) q ≡ drop (128 * q) digests ++ new ∷ [] = rw tail (take_all 128 _ short) in
-    rw (count, map-range_with_len_more (λ k. hash_block (run (digests ++ new ∷ []) k)) 0 q q (omega arith),
-      full-append digests (new ∷ []) q (omega arith), last) refl
+    rw (
+      count,
+      map-range_with_len_more (λ k. hash_block (run (digests ++ new ∷ []) k)) 0 q q (omega arith),
+      full-append digests (new ∷ []) q (omega arith),
+      last,
+    ) refl
 
 -- a level whose last run is full
 pub level-full : (digests : List (List ℕ)) → length digests % 128 ≡ 0 → level digests ≡ full_level digests

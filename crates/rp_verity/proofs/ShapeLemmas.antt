@@ -30,13 +30,14 @@ first_place p a zero l low high before at = omega arith
 first_place p a (suc n) l low high before at =
     let end : a + suc n ≡ a + 1 + n = omega arith in
     elim (eqb_tells a l) [
-      inl w ↦
-        let yes : p a ≡ true = rw w.1 (at (omega arith)) in
-        rw yes w.1
-    | inr w ↦
-        let not_same : a ≢ l = w.1 in
-        let no : p a ≡ false = before a (omega arith) (omega arith) in
-        rw (no, end) (first_place p (a + 1) n l (omega arith) (omega arith) (λ k low' below. before k (omega arith) below) (λ below. at (omega arith))) ]
+      | inl w ↦
+          let yes : p a ≡ true = rw w.1 (at (omega arith)) in
+          rw yes w.1
+      | inr w ↦
+          let not_same : a ≢ l = w.1 in
+          let no : p a ≡ false = before a (omega arith) (omega arith) in
+          rw (no, end) (first_place p (a + 1) n l (omega arith) (omega arith) (λ k low' below. before k (omega arith) below) (λ below. at (omega arith)))
+    ]
 
 -- the levels over so many data blocks, as their definition says
 pub levels_is : (blocks l : ℕ) → l ≤ 5 → ((k : ℕ) → k < l → (blocks - 1) / 128 ^ k ≢ 0) → (l < 5 → (blocks - 1) / 128 ^ l ≡ 0)
@@ -44,7 +45,7 @@ pub levels_is : (blocks l : ℕ) → l ≤ 5 → ((k : ℕ) → k < l → (block
 unfolding levels
 levels_is blocks l few before at =
     first_place (λ k. (blocks - 1) / 128 ^ k == 0) 0 5 l (omega arith) (omega arith)
-      (λ k low below. ne_eqb ((blocks - 1) / 128 ^ k) 0 (before k below)) (λ below. eq-eqb ((blocks - 1) / 128 ^ l) 0 (at (omega arith)))
+    (λ k low below. ne_eqb ((blocks - 1) / 128 ^ k) 0 (before k below)) (λ below. eq-eqb ((blocks - 1) / 128 ^ l) 0 (at (omega arith)))
 
 -- how many blocks the levels have
 pub length-stored : (salt : List ℕ) (n : ℕ) (digests : List (List ℕ)) → length (stored salt n digests) ≡ blocks_over n (length digests)
@@ -78,14 +79,14 @@ blocks_over-sum (suc n) blocks some =
     let lowest : (blocks - 1) / 128 + 1 ≡ runs blocks = omega arith in
     let count : runs blocks - 1 ≡ (blocks - 1) / 128 = omega arith in
     let up : map (level_blocks blocks) (range_with_len (0 + 1) n) ≡ map (level_blocks (runs blocks)) (range_with_len 0 n) =
-      shift (level_blocks blocks) (level_blocks (runs blocks)) 0 n (λ k. rw (div-pow-suc (blocks - 1) (k + 1), count) refl) in
+    shift (level_blocks blocks) (level_blocks (runs blocks)) 0 n (λ k. rw (div-pow-suc (blocks - 1) (k + 1), count) refl) in
     let above : blocks_over n (runs blocks) ≡ sum (map (level_blocks (runs blocks)) (range_with_len 0 n)) =
-      blocks_over-sum n (runs blocks) (omega arith) in
+    blocks_over-sum n (runs blocks) (omega arith) in
     let all : sum (map (level_blocks blocks) (0 ∷ range_with_len (0 + 1) n))
-        ≡ level_blocks blocks 0 + sum (map (level_blocks blocks) (range_with_len (0 + 1) n)) =
-      sum-map (level_blocks blocks) (0 ∷ range_with_len (0 + 1) n)
-      ∙ sum_by-cons (level_blocks blocks) 0 (range_with_len (0 + 1) n)
-      ∙ ap (λ (k : ℕ). level_blocks blocks 0 + k) (sym (sum-map (level_blocks blocks) (range_with_len (0 + 1) n))) in
+    ≡ level_blocks blocks 0 + sum (map (level_blocks blocks) (range_with_len (0 + 1) n)) =
+    sum-map (level_blocks blocks) (0 ∷ range_with_len (0 + 1) n)
+    ∙ sum_by-cons (level_blocks blocks) 0 (range_with_len (0 + 1) n)
+    ∙ ap (λ (k : ℕ). level_blocks blocks 0 + k) (sym (sum-map (level_blocks blocks) (range_with_len (0 + 1) n))) in
     rw (all, up, ← above, lowest) (omega arith)
 
 pub hash_blocks-over : (blocks : ℕ) → 1 ≤ blocks → hash_blocks blocks ≡ 1 + blocks_over (levels blocks) blocks

@@ -39,7 +39,7 @@ stays_says told path len old new said = said
 
 pub block_of : (told : Option (List Stored)) (path : List ℕ) (len k : ℕ) (block : List ℕ)
     → IfSome told (λ files. IfSome (content files path) (λ bytes.
-        (blocks : ℕ) → k < blocks → len ≤ 4096 * blocks → block ≡ bytes_at (filled blocks (take len bytes)) (4096 * k) 4096))
+    (blocks : ℕ) → k < blocks → len ≤ 4096 * blocks → block ≡ bytes_at (filled blocks (take len bytes)) (4096 * k) 4096))
     → BlockOf told path len k block
 unfolding BlockOf
 block_of told path len k block said = said
@@ -85,7 +85,7 @@ more_found (Some bytes) len blocks k builder after salt block below few has read
     let all : List ℕ = filled blocks (take len bytes) in
     let here : block ≡ bytes_at all (4096 * k) 4096 = read blocks below few in
     let more : cut (k + 1) all ≡ cut k all ++ bytes_at all (4096 * k) 4096 ∷ [] =
-      map-range_with_len_more (λ k. bytes_at all (4096 * k) 4096) 0 k k (omega arith) in
+    map-range_with_len_more (λ k. bytes_at all (4096 * k) 4096) 0 k k (omega arith) in
     rw (more, ← here) (pushed (cut k all) has)
 
 pub taken-more : (told : Option (List Stored)) (path : List ℕ) (len blocks k : ℕ) (builder after : Builder) (salt block : List ℕ)
@@ -109,7 +109,7 @@ pub taken-root : {E : Type 0} (result : Result (List ℕ) E) (told : Option (Lis
     (builder : Builder) (salt : List ℕ) → TakenFrom told path len blocks builder salt blocks
     → ((taken : List (List ℕ)) → HasTaken builder salt taken → IfOk result (λ root. root ≡ root_hash salt taken))
     → IfSome told (λ files. IfSome (content files path) (λ bytes.
-        IfOk result (λ root. root ≡ root_hash salt (cut blocks (filled blocks (take len bytes))))))
+    IfOk result (λ root. root ≡ root_hash salt (cut blocks (filled blocks (take len bytes))))))
 unfolding TakenFrom
 taken-root result None path len blocks builder salt has root = tt
 taken-root result (Some files) path len blocks builder salt has root =

@@ -62,16 +62,16 @@ digests_more salt taken next = sym (map_push (digest salt) taken next)
 pub puts_taken : (salt : List ℕ) (n blocks : ℕ) (taken rest : List (List ℕ)) (next : List ℕ) → n ≡ levels blocks
     → length (taken ++ next ∷ [] ++ rest) ≡ blocks
     → full_puts salt n blocks (map (digest salt) taken ++ digest salt next ∷ [])
-      ≡ placed (stored_tree salt (taken ++ next ∷ [] ++ rest)) (full_with (levels blocks) blocks (length taken + 1))
+    ≡ placed (stored_tree salt (taken ++ next ∷ [] ++ rest)) (full_with (levels blocks) blocks (length taken + 1))
 unfolding stored_tree
 puts_taken salt n blocks taken rest next count all =
     let digests : List (List ℕ) = map (digest salt) (taken ++ next ∷ []) in
     let whole : map (digest salt) (taken ++ next ∷ [] ++ rest) ≡ digests ++ map (digest salt) rest =
-      map-append (digest salt) (taken ++ next ∷ []) rest in
+    map-append (digest salt) (taken ++ next ∷ []) rest in
     let total : length (digests ++ map (digest salt) rest) ≡ blocks =
-      ap length (sym whole) ∙ length-map (taken ++ next ∷ [] ++ rest) (digest salt) ∙ all in
+    ap length (sym whole) ∙ length-map (taken ++ next ∷ [] ++ rest) (digest salt) ∙ all in
     let reached : length digests ≡ length taken + 1 =
-      length-map (taken ++ next ∷ []) (digest salt) ∙ length-append taken (next ∷ []) in
+    length-map (taken ++ next ∷ []) (digest salt) ∙ length-append taken (next ∷ []) in
     let some : 1 ≤ length digests = omega arith in
     let puts = full_puts-placed salt n digests (map (digest salt) rest) some in
     rw (digests_more salt taken next, all, whole, ← count) (rw (total, reached) at puts)
@@ -107,10 +107,10 @@ unfolding root_hash
 root_given salt n blocks root some count one tops_are =
     let all : tops salt n (map (digest salt) blocks) ≡ full_tops salt n (map (digest salt) blocks) ++ root ∷ [] = rw append-nil at tops_are in
     let length_one : length (full_tops salt n (map (digest salt) blocks) ++ root ∷ []) ≡ 1 =
-      ap length (sym all) ∙ one_top salt n blocks some one in
+    ap length (sym all) ∙ one_top salt n blocks some one in
     let none : full_tops salt n (map (digest salt) blocks) ≡ [] =
-      nil_from_length (full_tops salt n (map (digest salt) blocks))
-        (omega (arith, length-append (full_tops salt n (map (digest salt) blocks)) (root ∷ []))) in
+    nil_from_length (full_tops salt n (map (digest salt) blocks))
+    (omega (arith, length-append (full_tops salt n (map (digest salt) blocks)) (root ∷ []))) in
     rw (← count, all, none) refl
 
 -- or the one that left the room before

@@ -7,7 +7,6 @@ use Rattle.rp_verity.specs.Tree.{digest, hash_block, raised, run, runs, tops}
 use Rattle.rp_verity.specs.Order.{place_of}
 use Rattle.rp_verity.specs.Puts.{Added, AddedPart}
 
-
 -- digests have 32 bytes each
 abbrev pub IsDigest : List ℕ → Type 0
 IsDigest bytes = length bytes ≡ 32
@@ -50,7 +49,7 @@ full_puts salt zero total digests = []
 full_puts salt (suc n) total digests =
     if length digests % 128 == 0
     then (place_of n total (length digests), hash_block (last_run digests))
-      ∷ full_puts salt n (runs total) (full_raised salt digests)
+    ∷ full_puts salt n (runs total) (full_raised salt digests)
     else []
 
 -- what is put at the end, when the last of these digests has come from below

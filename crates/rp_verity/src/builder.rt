@@ -77,15 +77,15 @@ impl<'a> Builder<'a> {
         ensures puts { (salt : List ℕ) (taken rest : List (List ℕ)) → HasTaken self.old salt taken
             → length (taken ++ next_of self.old ∷ [] ++ rest) ≡ blocks_of self.old
             → OnOk result (Added (K.told out.old)
-                (placed (stored_tree salt (taken ++ next_of self.old ∷ [] ++ rest))
-                    (full_with (levels (blocks_of self.old)) (blocks_of self.old) (length taken + 1)))
-                (K.told out.new)) }
+            (placed (stored_tree salt (taken ++ next_of self.old ∷ [] ++ rest))
+            (full_with (levels (blocks_of self.old)) (blocks_of self.old) (length taken + 1)))
+            (K.told out.new)) }
         ensures cut { (salt : List ℕ) (taken rest : List (List ℕ)) → HasTaken self.old salt taken
             → length (taken ++ next_of self.old ∷ [] ++ rest) ≡ blocks_of self.old
             → OnErr result (AddedPart (K.told out.old)
-                (placed (stored_tree salt (taken ++ next_of self.old ∷ [] ++ rest))
-                    (full_with (levels (blocks_of self.old)) (blocks_of self.old) (length taken + 1)))
-                (K.told out.new)) }
+            (placed (stored_tree salt (taken ++ next_of self.old ∷ [] ++ rest))
+            (full_with (levels (blocks_of self.old)) (blocks_of self.old) (length taken + 1)))
+            (K.told out.new)) }
         ensures cause { HasCause (K.faults out.old) (K.faults out.new) result }
     {
         let salted = copy_of(&self.salted);
@@ -107,10 +107,10 @@ impl<'a> Builder<'a> {
             → IfOk result (λ root. root ≡ root_hash salt blocks) }
         ensures puts { (salt : List ℕ) (blocks : List (List ℕ)) → HasTaken self.entry salt blocks
             → OnOk result (Added (K.told out.old)
-                (placed (stored_tree salt blocks) (left_over (levels (length blocks)) (length blocks))) (K.told out.new)) }
+            (placed (stored_tree salt blocks) (left_over (levels (length blocks)) (length blocks))) (K.told out.new)) }
         ensures cut { (salt : List ℕ) (blocks : List (List ℕ)) → HasTaken self.entry salt blocks
             → OnErr result (AddedPart (K.told out.old)
-                (placed (stored_tree salt blocks) (left_over (levels (length blocks)) (length blocks))) (K.told out.new)) }
+            (placed (stored_tree salt blocks) (left_over (levels (length blocks)) (length blocks))) (K.told out.new)) }
         ensures cause { HasCause (K.faults out.old) (K.faults out.new) result }
     {
         let Builder {

@@ -52,7 +52,7 @@ fn read_block<S: Sources>(
     requires block { length block.old ≡ 4096 }
     ensures bytes { IfSome (S.told sources.old) (λ files. IfSome (content files path.now) (λ bytes.
         OnOk result ((blocks : ℕ) → k < blocks → len ≤ 4096 * blocks
-            → block.new ≡ bytes_at (filled blocks (take len bytes)) (4096 * k) 4096))) }
+        → block.new ≡ bytes_at (filled blocks (take len bytes)) (4096 * k) 4096))) }
     ensures told { S.told sources.new ≡ S.told sources.old }
     ensures strays { IfSome (S.told sources.old) (λ files. Reaches (content files path.now) len
         → S.strays sources.new ≡ S.strays sources.old) }

@@ -2,7 +2,6 @@ ghost use Rattle.std.specs.Prelude.{◌≡◌, ◌<◌, ◌≤◌, ◌+◌, ◌-
 ghost use Rattle.std.specs.Option.{option_to_list};
 ghost use Rattle.sha2.specs.Hashers.{Holds256};
 ghost use Rattle.rp_base.specs.Faults.{HasCause};
-
 ghost use Rattle.rp_verity.specs.Tree.{digest, runs};
 ghost use Rattle.rp_verity.specs.Order.{place_of};
 ghost use Rattle.rp_verity.specs.Puts.{Added, AddedSome};
@@ -57,7 +56,15 @@ pub(crate) fn add<K: TreeOut>(
     }
     let up = put_block(salted, block, levels - 1, total, before, out)?;
     block.fill(0);
-    add(salted, levels - 1, above, runs(total), before / FAN, up, out)
+    add(
+        salted,
+        levels - 1,
+        above,
+        runs(total),
+        before / FAN,
+        up,
+        out,
+    )
 }
 
 /// Puts the blocks that are not full when all digests, `total` at the lowest of so many levels, have come, the last of them

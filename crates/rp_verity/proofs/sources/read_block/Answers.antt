@@ -19,4 +19,4 @@ returns-clause-bytes g c =
     let rest : length c.split_at_mut-part.result.1.now ≡ 4096 - size = omega arith in
     let zeros : c.fill.new.self ≡ replicate (4096 - size) 0 = c.fill.ensures.after (λ y e. e) ∙ ap (λ (n : ℕ). replicate n 0) rest in
     source-read c.read.result (g.S.Sources.told c.args.sources.now) c.args.path.now c.args.len c.args.k size c.read.new.buf c.fill.new.self
-      is_size some zeros c.read.ensures.bytes
+    is_size some zeros c.read.ensures.bytes

@@ -34,12 +34,12 @@ returns-then-total-eq0-clause-closes g t c salt digests salted each carried_is c
     let all : length digests ≡ c.args.total = count_none digests c.args.carried c.args.total c.in_default.is count in
     let full : length digests % 128 ≡ 0 = omega arith in
     let raised_count : length (full_raised salt digests) ≡ length digests / 128 =
-      length-map (full_level digests) (digest salt) ∙ length-full_level digests in
+    length-map (full_level digests) (digest salt) ∙ length-full_level digests in
     let above_all : length (full_raised salt digests ++ []) ≡ c.runs.result = rw append-nil (omega arith) in
     let inner = c.close.ensures.closes salt (full_raised salt digests) salted (are_digests salt (full_level digests)) (All-nil IsDigest) above_all in
     rw (c.split_at_mut-block.ensures.value, next, c.in_default.is)
-      (closes_full salt (c.args.levels - 1) digests c.split_at_mut-block.result.0.now c.split_at_mut-block.result.1.now _ _ c.close.result
-        c.split_at_mut-block.ensures.front_len full inner)
+    (closes_full salt (c.args.levels - 1) digests c.split_at_mut-block.result.0.now c.split_at_mut-block.result.1.now _ _ c.close.result
+    c.split_at_mut-block.ensures.front_len full inner)
 
 pub returns-in_err-up-clause-closes : goal.returns-in_err-up-clause-closes
 returns-in_err-up-clause-closes g t c salt digests salted each carried_is count =
@@ -49,20 +49,21 @@ returns-in_err-up-clause-closes g t c salt digests salted each carried_is count 
     let after : List ℕ = c.match-carried.block in
     let whole : length block ≡ 4096 = c.split_at_mut-block.ensures.front_len in
     let has : HasLast digests c.args.carried block after =
-      elim c.match-carried.branch [
-        in-Some w ↦
+    elim c.match-carried.branch [
+      | in-Some w ↦
           let before : length digests ≡ c.args.total - 1 = count_some digests c.args.carried w.in-Some.digest c.args.total w.in-Some.is count in
           let long : length w.in-Some.digest ≡ 32 = All-head IsDigest w.in-Some.digest [] (rw w.in-Some.is at carried_is) in
           has_last-some digests c.args.carried w.in-Some.digest block after w.in-Some.is long (rw before (w.block-is ∙ w.place.ensures))
       | in_default+else-total-eq0 w ↦
           let all : length digests ≡ c.args.total = count_none digests c.args.carried c.args.total w.in_default.is count in
-          has_last-none digests c.args.carried block after w.in_default.is (rw all w.if-total-eq0.false) w.block-is ] in
+          has_last-none digests c.args.carried block after w.in_default.is (rw all w.if-total-eq0.false) w.block-is
+    ] in
     let last : c.args.total - 1 + 1 ≡ c.args.total = omega arith in
     let failed : AddedPart (g.K.TreeOut.told c.args.out.now) ((place_of (c.args.levels - 1) c.args.total c.args.total, after) ∷ [])
-        (g.K.TreeOut.told c.put_block.new.out) = rw last at c.in_err-up.ensures.failed in
+    (g.K.TreeOut.told c.put_block.new.out) = rw last at c.in_err-up.ensures.failed in
     rw (c.split_at_mut-block.ensures.value, next)
-      (closes_failed salt (c.args.levels - 1) c.args.total digests c.args.carried block above after _ _ c.from_residual.result
-        c.from_residual.ensures.0 each whole has count failed)
+    (closes_failed salt (c.args.levels - 1) c.args.total digests c.args.carried block above after _ _ c.from_residual.result
+    c.from_residual.ensures.0 each whole has count failed)
 
 pub returns-clause-closes : goal.returns-clause-closes
 returns-clause-closes g t c salt digests salted each carried_is count =
@@ -72,26 +73,27 @@ returns-clause-closes g t c salt digests salted each carried_is count =
     let after : List ℕ = c.match-carried.block in
     let whole : length block ≡ 4096 = c.split_at_mut-block.ensures.front_len in
     let has : HasLast digests c.args.carried block after =
-      elim c.match-carried.branch [
-        in-Some w ↦
+    elim c.match-carried.branch [
+      | in-Some w ↦
           let before : length digests ≡ c.args.total - 1 = count_some digests c.args.carried w.in-Some.digest c.args.total w.in-Some.is count in
           let long : length w.in-Some.digest ≡ 32 = All-head IsDigest w.in-Some.digest [] (rw w.in-Some.is at carried_is) in
           has_last-some digests c.args.carried w.in-Some.digest block after w.in-Some.is long (rw before (w.block-is ∙ w.place.ensures))
       | in_default+else-total-eq0 w ↦
           let all : length digests ≡ c.args.total = count_none digests c.args.carried c.args.total w.in_default.is count in
-          has_last-none digests c.args.carried block after w.in_default.is (rw all w.if-total-eq0.false) w.block-is ] in
+          has_last-none digests c.args.carried block after w.in_default.is (rw all w.if-total-eq0.false) w.block-is
+    ] in
     let last : c.args.total - 1 + 1 ≡ c.args.total = omega arith in
     let put : Added (g.K.TreeOut.told c.args.out.now) ((place_of (c.args.levels - 1) c.args.total c.args.total, after) ∷ [])
-        (g.K.TreeOut.told c.put_block.new.out) = rw last at c.in_ok-up.ensures.put in
+    (g.K.TreeOut.told c.put_block.new.out) = rw last at c.in_ok-up.ensures.put in
     let up : c.in_ok-up.up ≡ digest salt after = c.in_ok-up.ensures.digest salt salted in
     let up_long : length c.in_ok-up.up ≡ 32 = ap length up ∙ length-digest salt after in
     let raised_count : length (full_raised salt digests) ≡ length digests / 128 =
-      length-map (full_level digests) (digest salt) ∙ length-full_level digests in
+    length-map (full_level digests) (digest salt) ∙ length-full_level digests in
     let above_all : length (full_raised salt digests ++ c.in_ok-up.up ∷ []) ≡ c.runs-2.result =
-      length-append (full_raised salt digests) (c.in_ok-up.up ∷ []) ∙ ap (λ (n : ℕ). n + 1) raised_count
-      ∙ count_above digests c.args.carried c.args.total has.open_run count ∙ sym c.runs-2.ensures in
+    length-append (full_raised salt digests) (c.in_ok-up.up ∷ []) ∙ ap (λ (n : ℕ). n + 1) raised_count
+    ∙ count_above digests c.args.carried c.args.total has.open_run count ∙ sym c.runs-2.ensures in
     let inner = c.close-2.ensures.closes salt (full_raised salt digests) salted (are_digests salt (full_level digests))
-      (All-cons IsDigest c.in_ok-up.up [] up_long (All-nil IsDigest)) above_all in
+    (All-cons IsDigest c.in_ok-up.up [] up_long (All-nil IsDigest)) above_all in
     rw (c.split_at_mut-block.ensures.value, next)
-      (closes_more salt (c.args.levels - 1) c.args.total digests c.args.carried block above after c.in_ok-up.up _ _ _ c.close-2.result
-        each whole has count up put inner)
+    (closes_more salt (c.args.levels - 1) c.args.total digests c.args.carried block above after c.in_ok-up.up _ _ _ c.close-2.result
+    each whole has count up put inner)

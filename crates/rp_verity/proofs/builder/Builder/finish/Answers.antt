@@ -21,7 +21,7 @@ returns-in_err-top-clause-cut g c salt blocks has =
     let some : 1 ≤ length blocks = omega (arith, c.requires.builder.some) in
     let count : c.args.self.count ≡ levels (length blocks) = rw all c.requires.builder.count in
     let closes = c.in_err-top.ensures.closes salt (map (digest salt) blocks) has.salted (are_digests salt blocks) (All-nil IsDigest)
-      (digest_count salt blocks c.args.self.blocks all) in
+    (digest_count salt blocks c.args.self.blocks all) in
     on_err_always c.from_residual.result (rw (puts_left salt c.args.self.count blocks some count) at (closes.cut has.room))
 
 pub returns-clause-puts : goal.returns-clause-puts
@@ -30,7 +30,7 @@ returns-clause-puts g c salt blocks has =
     let some : 1 ≤ length blocks = omega (arith, c.requires.builder.some) in
     let count : c.args.self.count ≡ levels (length blocks) = rw all c.requires.builder.count in
     let closes = c.in_ok-top.ensures.closes salt (map (digest salt) blocks) has.salted (are_digests salt blocks) (All-nil IsDigest)
-      (digest_count salt blocks c.args.self.blocks all) in
+    (digest_count salt blocks c.args.self.blocks all) in
     on_ok_always c.match-top.result (rw (puts_left salt c.args.self.count blocks some count) at (closes.puts has.room))
 
 pub returns-clause-root : goal.returns-clause-root
@@ -40,8 +40,9 @@ returns-clause-root g c salt blocks has =
     let count : c.args.self.count ≡ levels (length blocks) = rw all c.requires.builder.count in
     let one : (length blocks - 1) / 128 ^ c.args.self.count ≡ 0 = rw all c.requires.builder.top in
     let closes = c.in_ok-top.ensures.closes salt (map (digest salt) blocks) has.salted (are_digests salt blocks) (All-nil IsDigest)
-      (digest_count salt blocks c.args.self.blocks all) in
+    (digest_count salt blocks c.args.self.blocks all) in
     let tops = closes.top has.room in
     elim c.match-top.branch [
-      in-Some w ↦ rw w.result-is (root_given salt c.args.self.count blocks w.in-Some.root some count one (rw w.in-Some.is at tops))
-    | in-None w ↦ rw w.result-is (root_kept salt c.args.self.count blocks c.args.self.root some count one (rw w.in-None.is at tops) has.root) ]
+      | in-Some w ↦ rw w.result-is (root_given salt c.args.self.count blocks w.in-Some.root some count one (rw w.in-Some.is at tops))
+      | in-None w ↦ rw w.result-is (root_kept salt c.args.self.count blocks c.args.self.root some count one (rw w.in-None.is at tops) has.root)
+    ]

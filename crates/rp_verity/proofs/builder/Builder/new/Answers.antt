@@ -7,7 +7,7 @@ pub returns-clause-taken : goal.returns-clause-taken
 returns-clause-taken c =
     let salt : List ℕ = c.args.salt.now in
     let zeros : c.fill.new.self ≡ replicate (4096 * c.levels-count.result) 0 =
-      c.fill.ensures.after (λ y e. e) ∙ ap (λ (n : ℕ). replicate n 0) (length-take-le (4096 * c.levels-count.result) c.args.room.now (omega arith)) in
+    c.fill.ensures.after (λ y e. e) ∙ ap (λ (n : ℕ). replicate n 0) (length-take-le (4096 * c.levels-count.result) c.args.room.now (omega arith)) in
     record {
       salted = c.update.ensures [] c.new-salted.ensures;
       pushed = refl;

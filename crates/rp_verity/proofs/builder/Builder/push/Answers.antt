@@ -17,7 +17,7 @@ returns-in_err-top-clause-cut g c salt taken rest has all =
     let salted : Holds256 c.copy_of-salted.result salt = rw c.copy_of-salted.ensures has.salted in
     let new : c.digest_of-digest.result ≡ digest salt next = c.digest_of-digest.ensures salt salted ∙ ap (digest salt) c.as_slice.ensures.value in
     let adds = c.in_err-top.ensures.adds salt digests salted (are_digests salt taken) (ap length new ∙ length-digest salt next)
-      (length-map taken (digest salt) ∙ sym has.pushed) in
+    (length-map taken (digest salt) ∙ sym has.pushed) in
     on_err_always c.from_residual.result (rw (new, puts_taken salt count blocks taken rest next c.requires.builder.count all) at (adds.cut has.room))
 
 pub returns-in-Some-clause-taken : goal.returns-in-Some-clause-taken
@@ -29,14 +29,14 @@ returns-in-Some-clause-taken g c salt taken has =
     let salted : Holds256 c.copy_of-salted.result salt = rw c.copy_of-salted.ensures has.salted in
     let new : c.digest_of-digest.result ≡ digest salt next = c.digest_of-digest.ensures salt salted ∙ ap (digest salt) c.as_slice.ensures.value in
     let adds = c.in_ok-top.ensures.adds salt digests salted (are_digests salt taken) (ap length new ∙ length-digest salt next)
-      (length-map taken (digest salt) ∙ sym has.pushed) in
+    (length-map taken (digest salt) ∙ sym has.pushed) in
     let tops = rw (new, c.in-Some.is) at (adds.top has.room) in
     record {
       salted = has.salted;
       pushed = omega (arith, has.pushed, length-append taken (next ∷ []));
       room = rw (new, digests_more salt taken next) at (adds.held has.room);
       root = λ front top e.
-        root_some salt count digests (digest salt next) c.in-Some.root tops front top (rw (digests_more salt taken next) e);
+          root_some salt count digests (digest salt next) c.in-Some.root tops front top (rw (digests_more salt taken next) e);
     }
 
 pub returns-in-Some-clause-puts : goal.returns-in-Some-clause-puts
@@ -48,7 +48,7 @@ returns-in-Some-clause-puts g c salt taken rest has all =
     let salted : Holds256 c.copy_of-salted.result salt = rw c.copy_of-salted.ensures has.salted in
     let new : c.digest_of-digest.result ≡ digest salt next = c.digest_of-digest.ensures salt salted ∙ ap (digest salt) c.as_slice.ensures.value in
     let adds = c.in_ok-top.ensures.adds salt digests salted (are_digests salt taken) (ap length new ∙ length-digest salt next)
-      (length-map taken (digest salt) ∙ sym has.pushed) in
+    (length-map taken (digest salt) ∙ sym has.pushed) in
     rw (new, puts_taken salt count blocks taken rest next c.requires.builder.count all) at (adds.puts has.room)
 
 pub returns-in_default-clause-taken : goal.returns-in_default-clause-taken
@@ -60,14 +60,14 @@ returns-in_default-clause-taken g c salt taken has =
     let salted : Holds256 c.copy_of-salted.result salt = rw c.copy_of-salted.ensures has.salted in
     let new : c.digest_of-digest.result ≡ digest salt next = c.digest_of-digest.ensures salt salted ∙ ap (digest salt) c.as_slice.ensures.value in
     let adds = c.in_ok-top.ensures.adds salt digests salted (are_digests salt taken) (ap length new ∙ length-digest salt next)
-      (length-map taken (digest salt) ∙ sym has.pushed) in
+    (length-map taken (digest salt) ∙ sym has.pushed) in
     let tops = rw (new, c.in_default.is) at (adds.top has.room) in
     record {
       salted = has.salted;
       pushed = omega (arith, has.pushed, length-append taken (next ∷ []));
       room = rw (new, digests_more salt taken next) at (adds.held has.room);
       root = λ front top e.
-        root_none salt count digests (digest salt next) c.args.self.now.root has.root tops front top (rw (digests_more salt taken next) e);
+          root_none salt count digests (digest salt next) c.args.self.now.root has.root tops front top (rw (digests_more salt taken next) e);
     }
 
 pub returns-in_default-clause-puts : goal.returns-in_default-clause-puts
@@ -79,5 +79,5 @@ returns-in_default-clause-puts g c salt taken rest has all =
     let salted : Holds256 c.copy_of-salted.result salt = rw c.copy_of-salted.ensures has.salted in
     let new : c.digest_of-digest.result ≡ digest salt next = c.digest_of-digest.ensures salt salted ∙ ap (digest salt) c.as_slice.ensures.value in
     let adds = c.in_ok-top.ensures.adds salt digests salted (are_digests salt taken) (ap length new ∙ length-digest salt next)
-      (length-map taken (digest salt) ∙ sym has.pushed) in
+    (length-map taken (digest salt) ∙ sym has.pushed) in
     rw (new, puts_taken salt count blocks taken rest next c.requires.builder.count all) at (adds.puts has.room)
