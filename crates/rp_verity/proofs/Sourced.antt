@@ -1,11 +1,11 @@
 -- What a builder has taken of a source, where the source tells.
 use Rattle.std.proofs.Common.{◌≡◌, ℕ, ◌+◌, ◌*◌, ◌<◌, ◌≤◌, List, [], ◌∷◌, ◌++◌, length, take, refl, ◌∙◌, arith}
-use Rattle.std.specs.Prelude.{Option, Some, None, Result, IfSome, IfOk}
+use Rattle.std.specs.Prelude.{Option, Some, None, Result, false, IfSome, IfOk}
 use Rattle.std.proofs.lemmas.List.{take_at}
 use Rattle.std.proofs.lemmas.List.FromFn.{map-range_with_len_more}
 use Rattle.rp_base.specs.Image.{bytes_at}
 use Rattle.rp_io.specs.declared.stored.Stored.{Stored}
-use Rattle.rp_io.specs.Files.{Reaches, content}
+use Rattle.rp_io.specs.Files.{content, passes}
 use Rattle.rp_verity.specs.declared.builder.Builder.{Builder}
 use Rattle.rp_verity.specs.Builder.{HasTaken, next_of}
 use Rattle.rp_verity.specs.Tree.{root_hash}
@@ -19,7 +19,7 @@ TakenFrom told path len blocks builder salt k =
 
 -- the count of stray calls stays where the source has all that is asked for
 unfoldable pub Stays : Option (List Stored) → List ℕ → ℕ → ℕ → ℕ → Type 0
-Stays told path len old new = IfSome told (λ files. Reaches (content files path) len → new ≡ old)
+Stays told path len old new = IfSome told (λ files. passes (content files path) len ≡ false → new ≡ old)
 
 -- a block of a source
 unfoldable pub BlockOf : Option (List Stored) → List ℕ → ℕ → ℕ → List ℕ → Type 0
@@ -28,12 +28,12 @@ BlockOf told path len k block = IfSome told (λ files. IfSome (content files pat
 
 -- what these words say
 pub stays_of : (told : Option (List Stored)) (path : List ℕ) (len old new : ℕ)
-    → IfSome told (λ files. Reaches (content files path) len → new ≡ old) → Stays told path len old new
+    → IfSome told (λ files. passes (content files path) len ≡ false → new ≡ old) → Stays told path len old new
 unfolding Stays
 stays_of told path len old new said = said
 
 pub stays_says : (told : Option (List Stored)) (path : List ℕ) (len old new : ℕ)
-    → Stays told path len old new → IfSome told (λ files. Reaches (content files path) len → new ≡ old)
+    → Stays told path len old new → IfSome told (λ files. passes (content files path) len ≡ false → new ≡ old)
 unfolding Stays
 stays_says told path len old new said = said
 

@@ -1,8 +1,8 @@
-ghost use Rattle.std.specs.Prelude.{◌≡◌, ◌<◌, ◌≤◌, ◌+◌, ◌*◌, ◌^◌, ℕ, IfSome, IfOk, OnOk, length, take};
+ghost use Rattle.std.specs.Prelude.{◌≡◌, ◌<◌, ◌≤◌, ◌+◌, ◌*◌, ◌^◌, ℕ, false, IfSome, IfOk, OnOk, length, take};
 ghost use Rattle.rp_base.specs.Faults.{HasCause};
 ghost use Rattle.rp_base.specs.Image.{bytes_at};
 ghost use Rattle.rp_base.specs.Trees.{levels};
-ghost use Rattle.rp_io.specs.Files.{content, Reaches};
+ghost use Rattle.rp_io.specs.Files.{content, passes};
 ghost use Rattle.rp_verity.specs.Tree.{root_hash};
 ghost use Rattle.rp_verity.specs.Filled.{cut, filled};
 
@@ -28,7 +28,7 @@ pub fn root_of<S: Sources>(
     ensures root { IfSome (S.told sources.old) (λ files. IfSome (content files path.now) (λ bytes.
         IfOk result (λ root. root ≡ root_hash salt.now (cut blocks (filled blocks (take len bytes)))))) }
     ensures told { S.told sources.new ≡ S.told sources.old }
-    ensures strays { IfSome (S.told sources.old) (λ files. Reaches (content files path.now) len
+    ensures strays { IfSome (S.told sources.old) (λ files. passes (content files path.now) len ≡ false
         → S.strays sources.new ≡ S.strays sources.old) }
     ensures cause { HasCause (S.faults sources.old) (S.faults sources.new) result }
 {
@@ -54,7 +54,7 @@ fn read_block<S: Sources>(
         OnOk result ((blocks : ℕ) → k < blocks → len ≤ 4096 * blocks
         → block.new ≡ bytes_at (filled blocks (take len bytes)) (4096 * k) 4096))) }
     ensures told { S.told sources.new ≡ S.told sources.old }
-    ensures strays { IfSome (S.told sources.old) (λ files. Reaches (content files path.now) len
+    ensures strays { IfSome (S.told sources.old) (λ files. passes (content files path.now) len ≡ false
         → S.strays sources.new ≡ S.strays sources.old) }
     ensures cause { HasCause (S.faults sources.old) (S.faults sources.new) result }
 {
