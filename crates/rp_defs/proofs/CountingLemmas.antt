@@ -36,8 +36,8 @@ pub counting_of_set : (all : List Keyed) → All IsSet (counting_of all)
 unfolding counting_of
 counting_of_set all = All-map IsSet (counting all) key_names (λ k d within. counting_set all (get_or key_names k d))
 
--- there is a place for each of the 25 keys
-pub length-counting_of : (all : List Keyed) → length (counting_of all) ≡ 25
+-- there is a place for each of the 26 keys
+pub length-counting_of : (all : List Keyed) → length (counting_of all) ≡ 26
 unfolding counting_of
 length-counting_of all = refl
 

@@ -10,7 +10,7 @@ use Rattle.rp_ini.specs.Lines.{Section, assigns_of}
 use Rattle.rp_ini.specs.declared.assign.Assign.{Assign}
 use Rattle.rp_defs.specs.Keys.{is_key}
 use Rattle.rp_defs.specs.Settings.{ignored_in, partition}
-use Rattle.rp_defs.specs.Slots.{differ, IsParsed}
+use Rattle.rp_defs.specs.Counting.{differ, IsParsed}
 
 -- the section of a name, as a file finds it
 abbrev pub found : List Section → List ℕ → Section

@@ -8,31 +8,52 @@ use Rattle.std.specs.Str.{bytes_eq}
 use Rattle.std.proofs.lemmas.Bool.{lt-ltb}
 use Rattle.std.proofs.lemmas.List.{length-map}
 use Rattle.rp_ini.proofs.FileLemmas.{position_or_len-map}
-use Rattle.rp_defs.specs.Keys.{key_names, key_name, is_key}
+use Rattle.rp_defs.specs.declared.keys.Reader.{Reader}
+use Rattle.rp_defs.specs.declared.keys.Reader.TheVariants.{Refused}
+use Rattle.rp_defs.specs.Keys.{keys, key_names, key_name, reader_of, is_key}
 
--- a text as it was lent
+-- a row as it was lent
 abbrev Lent : Type 0
-Lent = Bor (List ℕ)
+Lent = Bor (List ℕ) × Reader
+
+abbrev pub as_listed : Lent → List ℕ × Reader
+as_listed row = (row.0.now, row.1)
 
 position-map : {A B : Type 0} (f : A → B) (p : B → Bool) (xs : List A) → position p (map f xs) ≡ position (λ x. p (f x)) xs
 position-map f p xs =
     ap (λ n. cond (nat_lt n (length (map f xs))) (Some n) None) (position_or_len-map f p xs)
     ∙ ap (λ n. cond (nat_lt (position_or_len (λ x. p (f x)) xs) n) (Some (position_or_len (λ x. p (f x)) xs)) None) (length-map xs f)
 
-pub place_of-lent : (name : List ℕ) (lent : List Lent) → map (λ (n : Lent). n.now) lent ≡ key_names
-    → position (λ (each : Lent). bytes_eq name each.now) lent ≡ position (bytes_eq name) key_names
-place_of-lent name lent is = sym (position-map (λ (n : Lent). n.now) (bytes_eq name) lent) ∙ ap (position (bytes_eq name)) is
+pub place_of-lent : (name : List ℕ) (lent : List Lent) → map as_listed lent ≡ keys
+    → position (λ (row : Lent). bytes_eq name row.0.now) lent ≡ position (bytes_eq name) key_names
+place_of-lent name lent is =
+    sym (position-map as_listed (λ (row : List ℕ × Reader). bytes_eq name row.0) lent)
+    ∙ ap (position (λ (row : List ℕ × Reader). bytes_eq name row.0)) is
+    ∙ sym (position-map (λ (row : List ℕ × Reader). row.0) (bytes_eq name) keys)
 
 get_or-map : {A B : Type 0} (f : A → B) (xs : List A) (place : ℕ) (d : A) (e : B) → place < length xs → f (get_or xs place d) ≡ get_or (map f xs) place e
 get_or-map f [] place d e lt = absurd (omega arith)
 get_or-map f (x ∷ xs) zero d e lt = refl
 get_or-map f (x ∷ xs) (suc place) d e lt = get_or-map f xs place d e (omega arith)
 
-pub key_name-lent : (key : ℕ) (lent : List Lent) (none : Lent) → map (λ (n : Lent). n.now) lent ≡ key_names → key < 25 → (get_or lent key none).now ≡ key_name key
+-- the row of a number
+row_at : (number : ℕ) (lent : List Lent) (none : Lent) → map as_listed lent ≡ keys → number < 26
+    → as_listed (get_or lent number none) ≡ get_or keys number ([], Refused)
+row_at number lent none is lt =
+    let many = length-map lent as_listed in let all = ap length is in
+    get_or-map as_listed lent number none ([], Refused) (omega (arith, many, all, lt)) ∙ ap (λ rows. get_or rows number ([], Refused)) is
+
+pub key_name-lent : (number : ℕ) (lent : List Lent) (none : Lent) → map as_listed lent ≡ keys → number < 26
+    → (get_or lent number none).0.now ≡ key_name number
 unfolding key_name
-key_name-lent key lent none is lt =
-    let many = length-map lent (λ (n : Lent). n.now) in let all = ap length is in
-    get_or-map (λ (n : Lent). n.now) lent key none [] (omega (arith, many, all, lt)) ∙ ap (λ ns. get_or ns key []) is
+key_name-lent number lent none is lt =
+    ap (λ (row : List ℕ × Reader). row.0) (row_at number lent none is lt)
+    ∙ get_or-map (λ (row : List ℕ × Reader). row.0) keys number ([], Refused) [] lt
+
+pub reader_of-lent : (number : ℕ) (lent : List Lent) (none : Lent) → map as_listed lent ≡ keys → number < 26
+    → (get_or lent number none).1 ≡ reader_of number
+unfolding reader_of
+reader_of-lent number lent none is lt = ap (λ (row : List ℕ × Reader). row.1) (row_at number lent none is lt)
 
 next_is_some : (b rest : Bool) (n size : ℕ) → nat_lt n size ≡ rest → nat_lt (cond (not b) (1 + n) 0) (suc size) ≡ (b || rest)
 next_is_some true rest n size is = lt-ltb zero (suc size) (omega arith)

@@ -2,13 +2,14 @@ pub mod BoundLemmas
 pub mod CountingLemmas
 pub mod IgnoredLemmas
 pub mod KeyLemmas
-pub mod KnownLemmas
+pub mod FaultLemmas
 pub mod ParsedLemmas
 pub mod SectionLemmas
-pub mod SlotLemmas
+pub mod AssignLemmas
 pub mod Counted
 pub mod DraftLemmas
 pub mod GroupLemmas
 pub mod PairLemmas
 pub mod Partners
 pub mod WantLemmas
+pub mod ValueLemmas

@@ -25,13 +25,13 @@ abbrev pub joined : Draft → Joint → Definition
 joined draft own = with_partner draft.definition own.verity own.priority
 
 joined_parts : (drafts : List Draft) (definition : Definition) (half : Half) (key : Option (List ℕ)) →
-    (λ (draft : Draft). joined draft (joint_of drafts draft) ≡ definition_of drafts draft) (record { definition = definition; half = half; key = key })
+    (λ (draft : Draft). joined draft (joint_of drafts draft) ≡ definition_of drafts draft) (record { definition = definition; half = half; match_key = key })
 joined_parts drafts definition Off key = refl
 joined_parts drafts definition Data key = refl
 joined_parts drafts definition Hash key = refl
 
 pub joined_is : (drafts : List Draft) (draft : Draft) → joined draft (joint_of drafts draft) ≡ definition_of drafts draft
-joined_is drafts draft = joined_parts drafts draft.definition draft.half draft.key
+joined_is drafts draft = joined_parts drafts draft.definition draft.half draft.match_key
 
 -- the joints by half
 pub joint_off : (drafts : List Draft) (draft : Draft) (priority : ℤ) → draft.half ≡ Off → priority ≡ draft.definition.priority

@@ -17,7 +17,7 @@ use Rattle.rp_ini.specs.Lines.{Section, Entry, Nothing, Header, Assignment, is_n
 use Rattle.rp_ini.specs.Parser.{Progress, with_assign, open_place, assigned, after_entry, after_read, after_line, after_lines}
 use Rattle.rp_ini.proofs.ParserLemmas.{parsed_lines}
 use Rattle.rp_ini.proofs.FileLemmas.{list_any-map}
-use Rattle.rp_defs.specs.Slots.{differ, IsParsed}
+use Rattle.rp_defs.specs.Counting.{differ, IsParsed}
 use Rattle.rp_defs.proofs.IgnoredLemmas.{names_of, other_name}
 
 -- how many assignments sections have

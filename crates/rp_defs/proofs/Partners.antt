@@ -27,7 +27,7 @@ use Rattle.rp_defs.proofs.PairLemmas.{is_unjoined, paired_ok}
 
 -- a draft with a key
 abbrev keyed : Definition → Half → List ℕ → Draft
-keyed definition half key = record { definition = definition; half = half; key = Some key }
+keyed definition half key = record { definition = definition; half = half; match_key = Some key }
 
 and_true : (a b : Bool) → (a && b) ≡ true → (a ≡ true) × (b ≡ true)
 and_true true b h = (refl, h)
@@ -51,10 +51,10 @@ key_true key (Some own) h = ap Some (sym (same_text key own (sym h)))
 -- a draft that is a half of the pair of a key
 pub half_true : (half : Half) (key : List ℕ) (draft : Draft) → is_half half key draft ≡ true → draft ≡ keyed draft.definition half key
 half_true half key draft h =
-    let parts = and_true (same_half half draft.half) (option_map_or (bytes_eq key) draft.key false) h in
-    let with_half : Half → Draft = λ half. record { definition = draft.definition; half = half; key = draft.key } in
-    let with_key : Option (List ℕ) → Draft = λ key. record { definition = draft.definition; half = half; key = key } in
-    ap with_half (sym (same_half_true half draft.half parts.0)) ∙ ap with_key (key_true key draft.key parts.1)
+    let parts = and_true (same_half half draft.half) (option_map_or (bytes_eq key) draft.match_key false) h in
+    let with_half : Half → Draft = λ half. record { definition = draft.definition; half = half; match_key = draft.match_key } in
+    let with_key : Option (List ℕ) → Draft = λ key. record { definition = draft.definition; half = half; match_key = key } in
+    ap with_half (sym (same_half_true half draft.half parts.0)) ∙ ap with_key (key_true key draft.match_key parts.1)
 
 data_is_half : (definition : Definition) (key : List ℕ) → is_half Data key (keyed definition Data key) ≡ true
 data_is_half definition key = same_bytes key
@@ -84,7 +84,7 @@ keyed_pair : (drafts : List Draft) (own : Option (List ℕ)) → option_map_or (
 keyed_pair drafts None h = absurd (cc)
 keyed_pair drafts (Some key) h = (key, record { named = refl; pair = pair_is drafts key h })
 
-joined_data : (drafts : List Draft) (definition : Definition) (own : Option (List ℕ)) → is_joined drafts (record { definition = definition; half = Data; key = own }) ≡ true
+joined_data : (drafts : List Draft) (definition : Definition) (own : Option (List ℕ)) → is_joined drafts (record { definition = definition; half = Data; match_key = own }) ≡ true
     → ((key : List ℕ) × IsJoinedBy drafts own key) × IsSome definition.source
 unfolding is_joined
 joined_data drafts definition own h =
@@ -95,7 +95,7 @@ not_true : (b : Bool) → not b ≡ true → b ≡ false
 not_true true h = absurd (cc)
 not_true false h = refl
 
-joined_hash : (drafts : List Draft) (definition : Definition) (own : Option (List ℕ)) → is_joined drafts (record { definition = definition; half = Hash; key = own }) ≡ true
+joined_hash : (drafts : List Draft) (definition : Definition) (own : Option (List ℕ)) → is_joined drafts (record { definition = definition; half = Hash; match_key = own }) ≡ true
     → ((key : List ℕ) × IsJoinedBy drafts own key) × IsNone definition.source
 unfolding is_joined
 joined_hash drafts definition own h =
@@ -146,13 +146,13 @@ place_is drafts half key i draft at one passes =
 at_map : (drafts : List Draft) (i : ℕ) (draft : Draft) → slice_get drafts i ≡ Some draft → slice_get (map (definition_of drafts) drafts) i ≡ Some (definition_of drafts draft)
 at_map drafts i draft at = slice_get-map (definition_of drafts) drafts i ∙ ap (option_map (definition_of drafts)) at
 
-data_partner : (drafts : List Draft) (i : ℕ) (a : Definition) (own : Option (List ℕ)) → AreJoined drafts → slice_get drafts i ≡ Some (record { definition = a; half = Data; key = own })
-    → (λ (x : Draft). HasPartner (map (definition_of drafts) drafts) i (definition_of drafts x) (definition_of drafts x).verity) (record { definition = a; half = Data; key = own })
+data_partner : (drafts : List Draft) (i : ℕ) (a : Definition) (own : Option (List ℕ)) → AreJoined drafts → slice_get drafts i ≡ Some (record { definition = a; half = Data; match_key = own })
+    → (λ (x : Draft). HasPartner (map (definition_of drafts) drafts) i (definition_of drafts x) (definition_of drafts x).verity) (record { definition = a; half = Data; match_key = own })
 data_partner drafts i a own joined at =
     let by_key = joined_data drafts a own (joined i _ at) in
     let key : List ℕ = by_key.0.0 in
     let pair : HasPair drafts key = by_key.0.1.pair in
-    let as_keyed : Option (List ℕ) → Draft = λ k. record { definition = a; half = Data; key = k } in
+    let as_keyed : Option (List ℕ) → Draft = λ k. record { definition = a; half = Data; match_key = k } in
     let here : slice_get drafts i ≡ Some (keyed a Data key) = at ∙ ap (λ k. Some (as_keyed k)) by_key.0.1.named in
     let other = half_at drafts Hash key (keyed a Data key) pair.hash_one in
     let j : ℕ = position_or_len (is_half Hash key) drafts in
@@ -164,13 +164,13 @@ data_partner drafts i a own joined at =
     ) in
     subst (λ k. (λ (x : Draft). HasPartner (map (definition_of drafts) drafts) i (definition_of drafts x) (definition_of drafts x).verity) (as_keyed k)) (sym by_key.0.1.named) found
 
-hash_partner : (drafts : List Draft) (j : ℕ) (b : Definition) (own : Option (List ℕ)) → AreJoined drafts → slice_get drafts j ≡ Some (record { definition = b; half = Hash; key = own })
-    → (λ (x : Draft). HasPartner (map (definition_of drafts) drafts) j (definition_of drafts x) (definition_of drafts x).verity) (record { definition = b; half = Hash; key = own })
+hash_partner : (drafts : List Draft) (j : ℕ) (b : Definition) (own : Option (List ℕ)) → AreJoined drafts → slice_get drafts j ≡ Some (record { definition = b; half = Hash; match_key = own })
+    → (λ (x : Draft). HasPartner (map (definition_of drafts) drafts) j (definition_of drafts x) (definition_of drafts x).verity) (record { definition = b; half = Hash; match_key = own })
 hash_partner drafts j b own joined at =
     let by_key = joined_hash drafts b own (joined j _ at) in
     let key : List ℕ = by_key.0.0 in
     let pair : HasPair drafts key = by_key.0.1.pair in
-    let as_keyed : Option (List ℕ) → Draft = λ k. record { definition = b; half = Hash; key = k } in
+    let as_keyed : Option (List ℕ) → Draft = λ k. record { definition = b; half = Hash; match_key = k } in
     let here : slice_get drafts j ≡ Some (keyed b Hash key) = at ∙ ap (λ k. Some (as_keyed k)) by_key.0.1.named in
     let other = half_at drafts Data key (keyed b Hash key) pair.data_one in
     let i : ℕ = position_or_len (is_half Data key) drafts in
@@ -186,9 +186,9 @@ hash_partner drafts j b own joined at =
 pub holds_at : {X : Type 0} (P : X → Type 0) (xs : List X) (i : ℕ) (x : X) → All P xs → slice_get xs i ≡ Some x → P x
 holds_at P xs i x all at = subst P (get_or_from_slice_get xs i x x at) (all i x (slice_get_within xs i x at))
 
-partner_parts : (drafts : List Draft) (i : ℕ) (a : Definition) (half : Half) (own : Option (List ℕ)) → AreJoined drafts → slice_get drafts i ≡ Some (record { definition = a; half = half; key = own })
+partner_parts : (drafts : List Draft) (i : ℕ) (a : Definition) (half : Half) (own : Option (List ℕ)) → AreJoined drafts → slice_get drafts i ≡ Some (record { definition = a; half = half; match_key = own })
     → a.verity ≡ verity.Off
-    → (λ (x : Draft). HasPartner (map (definition_of drafts) drafts) i (definition_of drafts x) (definition_of drafts x).verity) (record { definition = a; half = half; key = own })
+    → (λ (x : Draft). HasPartner (map (definition_of drafts) drafts) i (definition_of drafts x) (definition_of drafts x).verity) (record { definition = a; half = half; match_key = own })
 partner_parts drafts i a Off own joined at alone = subst (HasPartner (map (definition_of drafts) drafts) i a) (sym alone) tt
 partner_parts drafts i a Data own joined at alone = data_partner drafts i a own joined at
 partner_parts drafts i a Hash own joined at alone = hash_partner drafts i a own joined at
@@ -199,10 +199,10 @@ partners_of drafts i definition None joined sound at is = absurd (cc)
 partners_of drafts i definition (Some draft) joined sound at is =
     let same : definition_of drafts draft ≡ definition = cc in
     let alone = (holds_at IsSoundDraft drafts i draft sound at).alone in
-    subst (λ d. HasPartner (map (definition_of drafts) drafts) i d d.verity) same (partner_parts drafts i draft.definition draft.half draft.key joined at alone)
+    subst (λ d. HasPartner (map (definition_of drafts) drafts) i d d.verity) same (partner_parts drafts i draft.definition draft.half draft.match_key joined at alone)
 
-sound_parts : (drafts : List Draft) (a : Definition) (half : Half) (own : Option (List ℕ)) → IsSoundDraft (record { definition = a; half = half; key = own })
-    → (λ (x : Draft). IsSound (definition_of drafts x)) (record { definition = a; half = half; key = own })
+sound_parts : (drafts : List Draft) (a : Definition) (half : Half) (own : Option (List ℕ)) → IsSoundDraft (record { definition = a; half = half; match_key = own })
+    → (λ (x : Draft). IsSound (definition_of drafts x)) (record { definition = a; half = half; match_key = own })
 sound_parts drafts a Off own s = record {
   used = s.used;
   want = s.want;
@@ -213,7 +213,7 @@ sound_parts drafts a Data own s = record { used = s.used; want = s.want; label =
 sound_parts drafts a Hash own s = record { used = s.used; want = s.want; label = s.label; sized = s.sized }
 
 sound_definition : (drafts : List Draft) (draft : Draft) → IsSoundDraft draft → IsSound (definition_of drafts draft)
-sound_definition drafts draft s = sound_parts drafts draft.definition draft.half draft.key s
+sound_definition drafts draft s = sound_parts drafts draft.definition draft.half draft.match_key s
 
 well_formed_all : (drafts : List Draft) → length drafts ≤ 256 → All IsSoundDraft drafts → find (is_unjoined drafts) drafts ≡ None → IsWellFormed (map (definition_of drafts) drafts)
 well_formed_all drafts few sound none = record {

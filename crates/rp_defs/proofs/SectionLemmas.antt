@@ -13,7 +13,7 @@ use Rattle.rp_defs.specs.declared.sections.Settings.{Settings}
 use Rattle.rp_defs.specs.Answers.{after, each}
 use Rattle.rp_defs.specs.Faults.{no_memory}
 use Rattle.rp_defs.specs.Settings.{Keyed, sections_of, keyed_in, read_pieces, all_keyed, all_ignored, counting_of, ignored_in}
-use Rattle.rp_defs.specs.Slots.{CountsAlso}
+use Rattle.rp_defs.specs.Counting.{CountsAlso}
 use Rattle.rp_defs.proofs.CountingLemmas.{length-counting_of}
 
 -- a piece that was read
@@ -46,7 +46,7 @@ step {T} {E} (Ok v) (Ok rest) now found value is then =
     ap (λ (r : Result (List T) E). after r (λ vs. Ok (v ∷ vs))) (then rest refl) ∙ ap (λ (vs : List T). Ok (vs ++ value ∷ [])) all
 
 -- one more answer behind the others
-each-push : {S T E : Type 0} (f : S → Result T E) (items : List S) (item : S) (found : List T) (value : T) → each f items ≡ Ok found → f item ≡ Ok value
+pub each-push : {S T E : Type 0} (f : S → Result T E) (items : List S) (item : S) (found : List T) (value : T) → each f items ≡ Ok found → f item ≡ Ok value
     → each f (items ++ item ∷ []) ≡ Ok (found ++ value ∷ [])
 each-push {S} {T} {E} f [] item found value is one =
     let none : [] ≡ found = cc in
@@ -60,7 +60,7 @@ fault_step (Ok v) (Err fault) now found error is then = absurd (cc)
 fault_step {T} {E} (Ok v) (Ok rest) now found error is then = ap (λ (r : Result (List T) E). after r (λ vs. Ok (v ∷ vs))) (then rest refl)
 
 -- the first fault, whatever stands behind it
-each-fault : {S T E : Type 0} (f : S → Result T E) (items : List S) (item : S) (behind : List S) (found : List T) (fault : E) → each f items ≡ Ok found → f item ≡ Err fault
+pub each-fault : {S T E : Type 0} (f : S → Result T E) (items : List S) (item : S) (behind : List S) (found : List T) (fault : E) → each f items ≡ Ok found → f item ≡ Err fault
     → each f (items ++ item ∷ behind) ≡ Err fault
 each-fault {S} {T} {E} f [] item behind found fault is one = ap (λ (r : Result T E). after r (λ v. after (each f behind) (λ vs. Ok (v ∷ vs)))) one
 each-fault f (first ∷ items) item behind found fault is one =
@@ -122,10 +122,10 @@ pub read_well : (r : Result (List Section) DefFault) (sections : List Section) �
 read_well r sections (inl is) = sym is
 read_well r sections (inr none) = absurd (cc)
 
-full_step : (so_far : Result (List Read) DefFault) (settings : Settings) → after so_far (λ read. Ok (total read)) ≡ Ok settings → length settings.counting ≡ 25
+full_step : (so_far : Result (List Read) DefFault) (settings : Settings) → after so_far (λ read. Ok (total read)) ≡ Ok settings → length settings.counting ≡ 26
 full_step (Err fault) settings is = absurd (cc)
 full_step (Ok read) settings is = let same : total read ≡ settings = cc in sym (ap (λ (s : Settings). length s.counting) same) ∙ length-counting_of (all_keyed read)
 
--- there is a slot for each key
-pub set_full : (pieces : List Piece) (settings : Settings) → set_by pieces ≡ Ok settings → length settings.counting ≡ 25
+-- there is a place for each key
+pub set_full : (pieces : List Piece) (settings : Settings) → set_by pieces ≡ Ok settings → length settings.counting ≡ 26
 set_full pieces settings is = full_step (read_pieces pieces) settings is

@@ -1,4 +1,5 @@
 pub mod Answers
+pub mod Counting
 pub mod Drafting
 pub mod Faults
 pub mod Joints
@@ -6,6 +7,6 @@ pub mod Keys
 pub mod Pairs
 pub mod Records
 pub mod Settings
-pub mod Slots
+pub mod Value
 pub mod Values
 pub mod WellFormed

@@ -22,7 +22,7 @@ same_half half other = false
 
 -- a draft is this half of the pair of a key
 abbrev pub is_half : Half → List ℕ → Draft → Bool
-is_half half key draft = same_half half draft.half && option_map_or (bytes_eq key) draft.key false
+is_half half key draft = same_half half draft.half && option_map_or (bytes_eq key) draft.match_key false
 
 -- exactly one data definition and one hash definition have the key
 abbrev pub is_pair : List Draft → List ℕ → Bool
@@ -30,7 +30,7 @@ is_pair drafts key = count_by (is_half Data key) drafts == 1 && count_by (is_hal
 
 -- whether a draft's key has a pair
 abbrev pub has_pair : List Draft → Draft → Bool
-has_pair drafts draft = option_map_or (is_pair drafts) draft.key false
+has_pair drafts draft = option_map_or (is_pair drafts) draft.match_key false
 
 -- a draft that is no half, or the data of a pair, with a source, or the hash of one, without
 unfoldable pub is_joined : List Draft → Draft → Bool
@@ -42,7 +42,7 @@ is_joined drafts draft = joined draft.half where
 
 -- the place of a half of the pair of a draft's key
 abbrev pub place_of : List Draft → Half → Draft → ℕ
-place_of drafts half draft = option_map_or (λ key. position_or_len (is_half half key) drafts) draft.key 0
+place_of drafts half draft = option_map_or (λ key. position_or_len (is_half half key) drafts) draft.match_key 0
 
 -- the greater of two priorities
 abbrev pub greater : ℤ → ℤ → ℤ
@@ -65,6 +65,7 @@ with_partner d own priority = record {
   source = d.source;
   verity = own;
   factory_reset = d.factory_reset;
+  split = d.split;
 }
 
 -- the definition of a draft: half of a pair names its partner, and both halves have the greater of their priorities

@@ -1,5 +1,5 @@
 -- Definitions as records (repart.d(5)): a definition from what its pieces set, and all definitions of the pieces.
-use Rattle.std.specs.Prelude.{ℕ, ◌+◌, ◌/◌, ◌^◌, min, max, pos, List, [], ◌∷◌, Bool, true, false, ◌||◌, ◌==◌, nat_lt, if◌then◌else◌, Option, Some, None, Result, Ok, Err, map, sum_by, unwrap_or, bit_and, codes}
+use Rattle.std.specs.Prelude.{ℕ, ℤ, ◌+◌, ◌/◌, ◌^◌, min, max, pos, List, [], ◌∷◌, Bool, true, false, ◌||◌, ◌==◌, nat_lt, if◌then◌else◌, Option, Some, None, Result, Ok, Err, map, sum_by, unwrap_or, bit_and, codes}
 use Rattle.std.specs.List.{list_any}
 use Rattle.std.specs.Option.{option_map_or}
 use Rattle.rp_base.specs.declared.guid.Guid.{Guid}
@@ -16,74 +16,16 @@ use Rattle.rp_defs.specs.declared.definition.Verity.TheVariants as verity
 use Rattle.rp_defs.specs.declared.draft.Draft.{Draft}
 use Rattle.rp_defs.specs.declared.draft.Half.{Half}
 use Rattle.rp_defs.specs.declared.draft.Half.TheVariants.{Off}
-use Rattle.rp_defs.specs.declared.groups.Identity.{Identity}
-use Rattle.rp_defs.specs.declared.groups.Sizes.{Sizes}
-use Rattle.rp_defs.specs.declared.groups.Contents.{Contents}
-use Rattle.rp_defs.specs.declared.groups.Switches.{Switches}
 use Rattle.rp_defs.specs.declared.fault.DefFault.{DefFault}
-use Rattle.rp_defs.specs.declared.fault.DefKind.TheVariants.{NoType, Limits}
+use Rattle.rp_defs.specs.declared.fault.DefKind.TheVariants.{Limits}
 use Rattle.rp_defs.specs.Answers.{after, each}
 use Rattle.rp_defs.specs.Faults.{whole_fault}
-use Rattle.rp_defs.specs.Keys.{key_named}
 use Rattle.rp_defs.specs.declared.setting.Setting.{Setting}
+use Rattle.rp_defs.specs.declared.value.Value.{Value}
 use Rattle.rp_defs.specs.Settings.{counting_of, read_pieces, all_keyed, all_ignored, groups_of}
-use Rattle.rp_defs.specs.Values.{value_at, kind_value, label_value, id_value, priority_value, weight_value, size_value, source_value, half_value, match_value, switch_value, refused_value, off_value}
+use Rattle.rp_defs.specs.Value.{id_in, label_in, priority_in, weight_in, size_in, half_in, switch_in, text_in}
+use Rattle.rp_defs.specs.Values.{type_of, values_of}
 use Rattle.rp_defs.specs.Pairs.{paired}
-
--- a value that has to be set
-abbrev pub required : {T : Type 0} → DefFault → Option T → Result T DefFault
-required fault None = Err fault
-required fault (Some value) = Ok value
-
--- the keys Type to Priority
-unfoldable pub identity_of : Arch → List ℕ → List (Option Setting) → Result Identity DefFault
-identity_of arch file counting =
-    after (value_at (kind_value arch) file counting (key_named (codes "Type"))) (λ set.
-    after (required (whole_fault file NoType) set) (λ kind.
-    after (value_at (label_value arch) file counting (key_named (codes "Label"))) (λ label.
-    after (value_at id_value file counting (key_named (codes "UUID"))) (λ id.
-    after (value_at priority_value file counting (key_named (codes "Priority"))) (λ priority.
-    Ok (record { kind = kind; label = label; id = id; priority = unwrap_or priority (pos 0) }))))))
-
--- the keys Weight to PaddingMaxBytes, as they are set
-unfoldable pub sizes_of : List ℕ → List (Option Setting) → Result Sizes DefFault
-sizes_of file counting =
-    after (value_at weight_value file counting (key_named (codes "Weight"))) (λ weight.
-    after (value_at weight_value file counting (key_named (codes "PaddingWeight"))) (λ pad_weight.
-    after (value_at size_value file counting (key_named (codes "SizeMinBytes"))) (λ min.
-    after (value_at size_value file counting (key_named (codes "SizeMaxBytes"))) (λ max.
-    after (value_at size_value file counting (key_named (codes "PaddingMinBytes"))) (λ pad_min.
-    after (value_at size_value file counting (key_named (codes "PaddingMaxBytes"))) (λ pad_max.
-    Ok (record { weight = weight; pad_weight = pad_weight; min = min; max = max; pad_min = pad_min; pad_max = pad_max })))))))
-
--- the keys CopyBlocks to VerityMatchKey
-unfoldable pub contents_of : Arch → List ℕ → List (Option Setting) → Result Contents DefFault
-contents_of arch file counting =
-    after (value_at (source_value arch) file counting (key_named (codes "CopyBlocks"))) (λ source.
-    after (value_at half_value file counting (key_named (codes "Verity"))) (λ half.
-    after (value_at match_value file counting (key_named (codes "VerityMatchKey"))) (λ key.
-    Ok (record { source = source; half = unwrap_or half Off; key = key }))))
-
--- the keys NoAuto to FactoryReset, as they are set
-unfoldable pub switches_of : List ℕ → List (Option Setting) → Result Switches DefFault
-switches_of file counting =
-    after (value_at switch_value file counting (key_named (codes "NoAuto"))) (λ no_auto.
-    after (value_at switch_value file counting (key_named (codes "ReadOnly"))) (λ read_only.
-    after (value_at switch_value file counting (key_named (codes "GrowFileSystem"))) (λ grow.
-    after (value_at switch_value file counting (key_named (codes "FactoryReset"))) (λ factory_reset.
-    Ok (record { no_auto = no_auto; read_only = read_only; grow = grow; factory_reset = factory_reset })))))
-
--- the keys CopyFiles to Subvolumes, which aren't supported; Encrypt and Minimize may be off
-unfoldable pub refusals : List ℕ → List (Option Setting) → Result (Unit {0}) DefFault
-refusals file counting =
-    after (value_at refused_value file counting (key_named (codes "CopyFiles"))) (λ _.
-    after (value_at off_value file counting (key_named (codes "Encrypt"))) (λ _.
-    after (value_at refused_value file counting (key_named (codes "Flags"))) (λ _.
-    after (value_at refused_value file counting (key_named (codes "Format"))) (λ _.
-    after (value_at refused_value file counting (key_named (codes "MakeDirectories"))) (λ _.
-    after (value_at off_value file counting (key_named (codes "Minimize"))) (λ _.
-    after (value_at refused_value file counting (key_named (codes "MountPoint"))) (λ _.
-    after (value_at refused_value file counting (key_named (codes "Subvolumes"))) (λ _. Ok tt))))))))
 
 -- bytes in grains of 4,096, rounded up and down
 abbrev pub grains_up : ℕ → ℕ
@@ -101,22 +43,22 @@ min_of set unset = option_map_or grains_up set unset
 
 -- what a definition asks for: half of a verity pair has no weight and, unset, no minimum; any other has a grain at least, and
 -- unset the lesser of 10 MiB and the maximum
-unfoldable pub want_of : Half → Sizes → Want
-want_of Off sizes = record {
-  min = max 1 (min_of sizes.min (min 2560 (max_of sizes.max)));
-  max = max_of sizes.max;
-  weight = unwrap_or sizes.weight 1000;
-  pad_min = min_of sizes.pad_min 0;
-  pad_max = max_of sizes.pad_max;
-  pad_weight = unwrap_or sizes.pad_weight 0;
+unfoldable pub want_of : Half → List (Option Value) → Want
+want_of Off values = record {
+  min = max 1 (min_of (size_in values (codes "SizeMinBytes")) (min 2560 (max_of (size_in values (codes "SizeMaxBytes")))));
+  max = max_of (size_in values (codes "SizeMaxBytes"));
+  weight = unwrap_or (weight_in values (codes "Weight")) 1000;
+  pad_min = min_of (size_in values (codes "PaddingMinBytes")) 0;
+  pad_max = max_of (size_in values (codes "PaddingMaxBytes"));
+  pad_weight = unwrap_or (weight_in values (codes "PaddingWeight")) 0;
 }
-want_of half sizes = record {
-  min = min_of sizes.min 0;
-  max = max_of sizes.max;
+want_of half values = record {
+  min = min_of (size_in values (codes "SizeMinBytes")) 0;
+  max = max_of (size_in values (codes "SizeMaxBytes"));
   weight = 0;
-  pad_min = min_of sizes.pad_min 0;
-  pad_max = max_of sizes.pad_max;
-  pad_weight = unwrap_or sizes.pad_weight 0;
+  pad_min = min_of (size_in values (codes "PaddingMinBytes")) 0;
+  pad_max = max_of (size_in values (codes "PaddingMaxBytes"));
+  pad_weight = unwrap_or (weight_in values (codes "PaddingWeight")) 0;
 }
 
 -- a type for the hashes or the signature of a file system, under either architecture
@@ -136,10 +78,11 @@ abbrev pub bit_of : Guid → ℕ → Bool → ℕ
 bit_of kind bit on = if on then bit_and (bits_of kind) bit else 0
 
 -- the attributes of a type: no-auto by default off, read-only on for hashes and signatures, grow-file-system on unless read-only is on
-unfoldable pub attrs_of : Guid → Switches → ℕ
-attrs_of kind switches =
-    let fixed = bit_of kind read_only (unwrap_or switches.read_only (is_hash_type kind)) in
-    bit_of kind no_auto (unwrap_or switches.no_auto false) + fixed + bit_of kind grow_file_system (unwrap_or switches.grow (fixed == 0))
+unfoldable pub attrs_of : Guid → List (Option Value) → ℕ
+attrs_of kind values =
+    let fixed = bit_of kind read_only (unwrap_or (switch_in values (codes "ReadOnly")) (is_hash_type kind)) in
+    bit_of kind no_auto (unwrap_or (switch_in values (codes "NoAuto")) false) + fixed
+    + bit_of kind grow_file_system (unwrap_or (switch_in values (codes "GrowFileSystem")) (fixed == 0))
 
 -- a minimum, of the size or of the padding, is above its maximum
 abbrev pub has_no_size : Want → Bool
@@ -148,31 +91,42 @@ has_no_size want = nat_lt want.max want.min || nat_lt want.pad_max want.pad_min
 abbrev pub within_limits : List ℕ → Draft → Result Draft DefFault
 within_limits file draft = if has_no_size draft.definition.want then Err (whole_fault file Limits) else Ok draft
 
--- a definition from what its pieces set, with the half and the match key of its pair, or its first fault: values in the order of
--- the keys, then the limits
+-- which half of a verity pair the values of its keys make a definition
+abbrev pub half_said : List (Option Value) → Half
+half_said values = unwrap_or (half_in values (codes "Verity")) Off
+
+-- the priority that they give it
+abbrev pub priority_said : List (Option Value) → ℤ
+priority_said values = unwrap_or (priority_in values (codes "Priority")) (pos 0)
+
+-- a definition from its type and the values of its keys, with the half and the match key of its pair; its verity is off until its
+-- partner is known
+unfoldable pub draft_from : List ℕ → Guid → List (Option Value) → Draft
+draft_from file kind values = record {
+  definition = record {
+    file = file;
+    kind = kind;
+    label = label_in values (codes "Label");
+    id = id_in values (codes "UUID");
+    priority = priority_said values;
+    want = want_of (half_said values) values;
+    attrs = attrs_of kind values;
+    source = text_in values (codes "CopyBlocks");
+    verity = verity.Off;
+    factory_reset = unwrap_or (switch_in values (codes "FactoryReset")) false;
+    split = text_in values (codes "SplitName");
+  };
+  half = half_said values;
+  match_key = text_in values (codes "VerityMatchKey");
+}
+
+-- a definition from what its pieces set, or its first fault: its type, which has to be set, the values in the order of the keys, then
+-- the limits
 unfoldable pub draft_of : Arch → List ℕ → List (Option Setting) → Result Draft DefFault
 draft_of arch file counting =
-    after (identity_of arch file counting) (λ identity.
-    after (sizes_of file counting) (λ sizes.
-    after (contents_of arch file counting) (λ contents.
-    after (switches_of file counting) (λ switches.
-    after (refusals file counting) (λ _.
-    within_limits file (record {
-      definition = record {
-        file = file;
-        kind = identity.kind;
-        label = identity.label;
-        id = identity.id;
-        priority = identity.priority;
-        want = want_of contents.half sizes;
-        attrs = attrs_of identity.kind switches;
-        source = contents.source;
-        verity = verity.Off;
-        factory_reset = unwrap_or switches.factory_reset false;
-      };
-      half = contents.half;
-      key = contents.key;
-    }))))))
+    after (type_of arch file counting) (λ kind.
+    after (values_of arch file counting) (λ values.
+    within_limits file (draft_from file kind values)))
 
 -- a definition's draft, and how many assignments of its pieces are ignored
 pub record Drafted : Type 0 where

@@ -3,28 +3,24 @@ ghost use Rattle.std.specs.Option.{option_map_or};
 ghost use Rattle.rp_types.specs.Types.{designator_of};
 ghost use Rattle.rp_defs.specs.Records.{attrs_of, bit_of, is_hash_designator, is_hash_type};
 
-use crate::groups::Switches;
+use crate::keys::Key;
+use crate::value::{Value, switch_in};
 use rp_base::Guid;
-use rp_types::{Arch, Designator, bits, designator_of};
-
-/// Not to be found by itself (Discoverable Partitions Specification, "no-auto").
-const NO_AUTO: u64 = 1 << 63;
-
-/// To be mounted read-only (the same, "read-only").
-const READ_ONLY: u64 = 1 << 60;
-
-/// To be grown with its partition when mounted (the same, "grow-file-system").
-const GROW_FILE_SYSTEM: u64 = 1 << 59;
+use rp_types::{Arch, Designator, GROW_FILE_SYSTEM, NO_AUTO, READ_ONLY, bits, designator_of};
 
 /// The attributes of a new partition of this type, as far as the type supports them.
 #[tactic(auto, unfolding(crate::specs::Records::attrs_of))]
-pub(crate) fn attrs_of(kind: Guid, switches: Switches) -> u64
-    ensures { result ≡ attrs_of kind switches }
+pub(crate) fn attrs_of(kind: Guid, values: &[Option<Value>]) -> u64
+    ensures { result ≡ attrs_of kind values.now }
 {
-    let hidden = bit(kind, NO_AUTO, switches.no_auto.unwrap_or(false));
-    let is_fixed = switches.read_only.unwrap_or(is_hash_type(kind));
+    let hidden = bit(
+        kind,
+        NO_AUTO,
+        switch_in(values, Key::NoAuto).unwrap_or(false),
+    );
+    let is_fixed = switch_in(values, Key::ReadOnly).unwrap_or(is_hash_type(kind));
     let fixed = bit(kind, READ_ONLY, is_fixed);
-    let grows = switches.grow.unwrap_or(fixed == 0);
+    let grows = switch_in(values, Key::GrowFileSystem).unwrap_or(fixed == 0);
     hidden + fixed + bit(kind, GROW_FILE_SYSTEM, grows)
 }
 

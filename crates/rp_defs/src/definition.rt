@@ -32,6 +32,9 @@ pub struct Definition {
     pub verity: Verity,
     /// `FactoryReset=`, which nothing reads yet.
     pub factory_reset: bool,
+    /// The name of the file that the partition is split into, `SplitName=`; none where it is unset, and the partition then
+    /// gives no file.
+    pub split: Option<Text>,
 }
 
 /// The definitions, in the order of their main files.

@@ -1,17 +1,19 @@
-ghost use Rattle.std.specs.Prelude.{◌≡◌, All, IfOk};
+ghost use Rattle.std.specs.Prelude.{◌≡◌, ◌≢◌, All, IfErr, IfOk, IfSome, replicate};
 ghost use Rattle.rp_base.specs.Answers.{Gives};
-ghost use Rattle.rp_defs.specs.Faults.{no_memory};
-ghost use Rattle.rp_defs.specs.Records.{draft_of, has_no_size};
+ghost use Rattle.rp_defs.specs.Faults.{no_memory, IsSoundFault};
+ghost use Rattle.rp_defs.specs.Records.{draft_from, draft_of, half_said, has_no_size, priority_said, want_of, within_limits};
 ghost use Rattle.rp_defs.specs.Settings.{IsSet};
+ghost use Rattle.rp_defs.specs.Value.{IsBounded};
 ghost use Rattle.rp_defs.specs.WellFormed.{IsSoundDraft};
 
 use crate::attrs::attrs_of;
-use crate::groups::{Contents, contents_of, identity_of, refusals, sizes_of, switches_of};
+use crate::keys::Key;
 use crate::setting::Setting;
-use crate::values::Values;
+use crate::value::{Value, half_in, id_in, label_in, priority_in, switch_in, take_text};
+use crate::values::{type_of, values_of};
 use crate::want::want_of;
 use crate::{DefFault, DefKind, Definition, Verity};
-use rp_base::{List, Text, Want};
+use rp_base::{Guid, List, Text, Want};
 use rp_types::Arch;
 use std::alloc::Global;
 
@@ -29,7 +31,7 @@ pub(crate) struct Draft {
     pub(crate) definition: Definition,
     pub(crate) half: Half,
     /// `VerityMatchKey=`, whatever the half.
-    pub(crate) key: Option<Text>,
+    pub(crate) match_key: Option<Text>,
 }
 
 /// Drafts in order, and how many assignments were ignored.
@@ -51,41 +53,84 @@ pub(crate) fn draft_of(
     requires { All IsSet counting.now }
     ensures answer { Gives no_memory (draft_of arch file.now counting.now) result }
     ensures sound { IfOk result IsSoundDraft }
+    ensures fault { IfErr result IsSoundFault }
 {
-    let values = Values {
-        alloc,
-        file,
-        counting,
-    };
-    let identity = identity_of(&values, arch)?;
-    let sizes = sizes_of(&values)?;
-    let Contents { source, half, key } = contents_of(&values, arch)?;
-    let switches = switches_of(&values)?;
-    refusals(&values)?;
-    let want = want_of(half, sizes);
+    let kind = type_of(alloc, file, counting, arch)?;
+    let values = values_of(alloc, file, counting, arch)?;
+    within_limits(alloc, file, kind, values)
+}
+
+// The draft of a definition from its type and the values of its keys, or the fault of its limits.
+fn within_limits(
+    alloc: Global,
+    file: &str,
+    kind: Guid,
+    values: List<Option<Value>>,
+) -> Result<Draft, DefFault>
+    requires used { kind.0 ≢ replicate 16 0 }
+    requires bounded { All (λ value. IfSome value IsBounded) values }
+    ensures answer { Gives no_memory (within_limits file.now (draft_from file.now kind values)) result }
+    ensures sound { IfOk result IsSoundDraft }
+    ensures fault { IfErr result IsSoundFault }
+{
+    let mut values = values;
+    let half = half_said(values.as_slice());
+    let want = want_of(half, values.as_slice());
     if has_no_size(want) {
         return Err(DefFault::placed(alloc, file, "", 0, DefKind::Limits));
     }
-    let Ok(file) = Text::from_str(alloc, file) else {
-        return Err(DefFault::starved(alloc));
-    };
+    match Text::from_str(alloc, file) {
+        Ok(file) => Ok(draft_from(file, kind, half, want, values.as_mut_slice())),
+        Err(_) => Err(DefFault::starved(alloc)),
+    }
+}
+
+// Which half of a verity pair the values of its keys make a definition.
+fn half_said(values: &[Option<Value>]) -> Half
+    ensures { result ≡ half_said values.now }
+{
+    half_in(values, Key::Verity).unwrap_or(Half::Off)
+}
+
+// The priority that the values of its keys give a definition.
+fn priority_said(values: &[Option<Value>]) -> i32
+    ensures { result ≡ priority_said values.now }
+{
+    priority_in(values, Key::Priority).unwrap_or(0)
+}
+
+// The draft of a definition; its texts are taken out of the values of its keys.
+fn draft_from(file: Text, kind: Guid, half: Half, want: Want, values: &mut [Option<Value>]) -> Draft
+    requires half { half ≡ half_said values.old }
+    requires want { want ≡ want_of half values.old }
+    ensures { result ≡ draft_from file kind values.old }
+{
+    let label = label_in(values, Key::Label);
+    let id = id_in(values, Key::Uuid);
+    let priority = priority_said(values);
+    let attrs = attrs_of(kind, values);
+    let factory_reset = switch_in(values, Key::FactoryReset).unwrap_or(false);
+    let source = take_text(values, Key::CopyBlocks);
+    let split = take_text(values, Key::SplitName);
+    let match_key = take_text(values, Key::VerityMatchKey);
     let definition = Definition {
         file,
-        kind: identity.kind,
-        label: identity.label,
-        id: identity.id,
-        priority: identity.priority,
+        kind,
+        label,
+        id,
+        priority,
         want,
-        attrs: attrs_of(identity.kind, switches),
+        attrs,
         source,
         verity: Verity::Off,
-        factory_reset: switches.factory_reset.unwrap_or(false),
+        factory_reset,
+        split,
     };
-    Ok(Draft {
+    Draft {
         definition,
         half,
-        key,
-    })
+        match_key,
+    }
 }
 
 // A minimum is above its maximum.

@@ -3,7 +3,7 @@ use rp_ini::IniFault;
 use std::alloc::Global;
 use thiserror::Error;
 
-/// What is wrong with a definition. `key` is the place of the key in the order in which keys are read, from 0 to 24; its
+/// What is wrong with a definition. `key` is the place of the key in the order in which keys are read, from 0 to 25; its
 /// name is `key_name` of it.
 #[derive(Clone, Copy, Debug, PartialEq, Eq, Error)]
 pub enum DefKind {
@@ -45,13 +45,15 @@ pub struct DefFault {
 }
 
 impl DefFault {
-    ghost use Rattle.std.specs.Prelude.{◌≡◌};
-    ghost use Rattle.rp_base.specs.Answers.{Gives};
-    ghost use Rattle.rp_defs.specs.Faults.{no_memory, IsFault};
+    ghost use Rattle.std.specs.Prelude.{◌≡◌, ◌≢◌};
+    ghost use Rattle.rp_defs.specs.Faults.{no_memory, IsFault, IsKnown, IsSoundFault};
+    ghost use Rattle.rp_defs.specs.declared.fault.DefKind.TheVariants.{Memory as want_of_memory};
 
     /// Want of memory.
+    #[tactic(auto, using(crate::proofs::FaultLemmas::starved_sound))]
     pub(crate) fn starved(alloc: Global) -> DefFault
-        ensures { result ≡ no_memory }
+        ensures value { result ≡ no_memory }
+        ensures sound { IsSoundFault result }
     {
         DefFault {
             file: Text::new(alloc),
@@ -62,6 +64,7 @@ impl DefFault {
     }
 
     /// A fault, or want of memory for its texts.
+    #[tactic(auto, using(crate::proofs::FaultLemmas::placed_sound, crate::proofs::FaultLemmas::starved_sound))]
     pub(crate) fn placed(
         alloc: Global,
         file: &str,
@@ -69,7 +72,10 @@ impl DefFault {
         line: u32,
         kind: DefKind,
     ) -> DefFault
-        ensures { IsFault (record { file = file.now; part = part.now; line = line; kind = kind }) result }
+        requires known { IsKnown kind }
+        requires some { kind ≢ want_of_memory }
+        ensures fault { IsFault (record { file = file.now; part = part.now; line = line; kind = kind }) result }
+        ensures sound { IsSoundFault result }
     {
         match (Text::from_str(alloc, file), Text::from_str(alloc, part)) {
             (Ok(file), Ok(part)) => DefFault {

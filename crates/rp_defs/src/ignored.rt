@@ -1,7 +1,7 @@
 ghost use Rattle.std.specs.Prelude.{◌≡◌, ◌<◌, ◌≤◌, ◌^◌, count_by, length, sum_by, not};
 ghost use Rattle.rp_defs.specs.Keys.{is_key};
 ghost use Rattle.rp_defs.specs.Settings.{ignored_in};
-ghost use Rattle.rp_defs.specs.Slots.{IsParsed};
+ghost use Rattle.rp_defs.specs.Counting.{IsParsed};
 
 use crate::keys::is_key;
 use rp_ini::{Assign, File};

@@ -1,115 +1,141 @@
 ghost use Rattle.std.specs.Prelude.{◌≡◌, ◌<◌, map, position};
 ghost use Rattle.std.specs.Str.{bytes_eq};
-ghost use Rattle.rp_defs.specs.Keys.{key_names, key_name, is_key};
+ghost use Rattle.rp_defs.specs.Keys.{key_name, key_names, is_key, keys, number_of, reader_of};
 
-/// Keys, in the order in which they are read, by their places.
-pub(crate) const TYPE: u8 = 0;
+/// The keys of `[Partition]` (repart.d(5)), in the order in which they are read. A key's number in a fault is its place
+/// here.
+#[derive(Clone, Copy)]
+pub(crate) enum Key {
+    Type,
+    Label,
+    Uuid,
+    Priority,
+    Weight,
+    PaddingWeight,
+    SizeMinBytes,
+    SizeMaxBytes,
+    PaddingMinBytes,
+    PaddingMaxBytes,
+    CopyBlocks,
+    Verity,
+    VerityMatchKey,
+    NoAuto,
+    ReadOnly,
+    GrowFileSystem,
+    FactoryReset,
+    CopyFiles,
+    Encrypt,
+    Flags,
+    Format,
+    MakeDirectories,
+    Minimize,
+    MountPoint,
+    Subvolumes,
+    SplitName,
+}
 
-pub(crate) const LABEL: u8 = 1;
+impl Key {
+    /// The key's number.
+    pub(crate) fn number(self) -> usize
+        ensures { result ≡ number_of self }
+    {
+        self as usize
+    }
+}
 
-pub(crate) const UUID: u8 = 2;
-
-pub(crate) const PRIORITY: u8 = 3;
-
-pub(crate) const WEIGHT: u8 = 4;
-
-pub(crate) const PADDING_WEIGHT: u8 = 5;
-
-pub(crate) const SIZE_MIN_BYTES: u8 = 6;
-
-pub(crate) const SIZE_MAX_BYTES: u8 = 7;
-
-pub(crate) const PADDING_MIN_BYTES: u8 = 8;
-
-pub(crate) const PADDING_MAX_BYTES: u8 = 9;
-
-pub(crate) const COPY_BLOCKS: u8 = 10;
-
-pub(crate) const VERITY: u8 = 11;
-
-pub(crate) const VERITY_MATCH_KEY: u8 = 12;
-
-pub(crate) const NO_AUTO: u8 = 13;
-
-pub(crate) const READ_ONLY: u8 = 14;
-
-pub(crate) const GROW_FILE_SYSTEM: u8 = 15;
-
-pub(crate) const FACTORY_RESET: u8 = 16;
-
-pub(crate) const COPY_FILES: u8 = 17;
-
-pub(crate) const ENCRYPT: u8 = 18;
-
-pub(crate) const FLAGS: u8 = 19;
-
-pub(crate) const FORMAT: u8 = 20;
-
-pub(crate) const MAKE_DIRECTORIES: u8 = 21;
-
-pub(crate) const MINIMIZE: u8 = 22;
-
-pub(crate) const MOUNT_POINT: u8 = 23;
-
-pub(crate) const SUBVOLUMES: u8 = 24;
+/// How the value of a key is read.
+#[derive(Clone, Copy)]
+pub(crate) enum Reader {
+    /// A partition type.
+    Type,
+    /// A partition's name.
+    Label,
+    /// A partition's identifier.
+    Id,
+    Priority,
+    Weight,
+    /// A size in bytes.
+    Size,
+    /// The path of a file.
+    Path,
+    /// Which half of a verity pair a definition is.
+    Half,
+    MatchKey,
+    Switch,
+    SplitName,
+    /// Not supported.
+    Refused,
+    /// Not supported but where it is `off`.
+    Off,
+}
 
 /// How many keys there are.
-pub(crate) const KEYS: usize = 25;
+pub(crate) const KEYS: usize = 26;
 
-static NAMES: [&str; KEYS] = [
-    "Type",
-    "Label",
-    "UUID",
-    "Priority",
-    "Weight",
-    "PaddingWeight",
-    "SizeMinBytes",
-    "SizeMaxBytes",
-    "PaddingMinBytes",
-    "PaddingMaxBytes",
-    "CopyBlocks",
-    "Verity",
-    "VerityMatchKey",
-    "NoAuto",
-    "ReadOnly",
-    "GrowFileSystem",
-    "FactoryReset",
-    "CopyFiles",
-    "Encrypt",
-    "Flags",
-    "Format",
-    "MakeDirectories",
-    "Minimize",
-    "MountPoint",
-    "Subvolumes",
+/// The name of each key and how its value is read, by number. The same table stands in specs/Keys.antt.
+static TABLE: [(&str, Reader); KEYS] = [
+    ("Type", Reader::Type),
+    ("Label", Reader::Label),
+    ("UUID", Reader::Id),
+    ("Priority", Reader::Priority),
+    ("Weight", Reader::Weight),
+    ("PaddingWeight", Reader::Weight),
+    ("SizeMinBytes", Reader::Size),
+    ("SizeMaxBytes", Reader::Size),
+    ("PaddingMinBytes", Reader::Size),
+    ("PaddingMaxBytes", Reader::Size),
+    ("CopyBlocks", Reader::Path),
+    ("Verity", Reader::Half),
+    ("VerityMatchKey", Reader::MatchKey),
+    ("NoAuto", Reader::Switch),
+    ("ReadOnly", Reader::Switch),
+    ("GrowFileSystem", Reader::Switch),
+    ("FactoryReset", Reader::Switch),
+    ("CopyFiles", Reader::Refused),
+    ("Encrypt", Reader::Off),
+    ("Flags", Reader::Refused),
+    ("Format", Reader::Refused),
+    ("MakeDirectories", Reader::Refused),
+    ("Minimize", Reader::Off),
+    ("MountPoint", Reader::Refused),
+    ("Subvolumes", Reader::Refused),
+    ("SplitName", Reader::SplitName),
 ];
 
-// The names of the keys, by place.
-fn names() -> &'static [&'static str]
-    ensures { map (λ name. name.now) result.now ≡ key_names }
+// The keys, by number.
+fn keys() -> &'static [(&'static str, Reader)]
+    ensures { map (λ row. (row.0.now, row.1)) result.now ≡ keys }
 {
-    &NAMES
+    &TABLE
 }
 
-/// The name of the key at a place in the order in which keys are read, from 0 (`Type`) to 24 (`Subvolumes`).
+/// The name of the key of a number, from 0 (`Type`) to 25 (`SplitName`).
 pub fn key_name(key: u8) -> &'static str
-    requires { key < 25 }
+    requires { key < 26 }
     ensures { result.now ≡ key_name key }
 {
-    names()[usize::from(key)]
+    keys()[usize::from(key)].0
 }
 
-/// The place of the key of this name, if it is a key's.
+/// How the value of the key of a number is read.
+pub(crate) fn reader_of(key: u8) -> Reader
+    requires { key < 26 }
+    ensures { result ≡ reader_of key }
+{
+    keys()[usize::from(key)].1
+}
+
+/// The number of the key of this name, if it is a key's.
 pub(crate) fn place_of(name: &str) -> Option<usize>
     ensures { result ≡ position (bytes_eq name.now) key_names }
 {
-    place_in(names(), name)
+    place_in(keys(), name)
 }
 
-fn place_in(names: &[&str], name: &str) -> Option<usize>
-    ensures { result ≡ position (λ each. bytes_eq name.now each.now) names.now }
+fn place_in(keys: &[(&str, Reader)], name: &str) -> Option<usize>
+    ensures { result ≡ position (λ row. bytes_eq name.now row.0.now) keys.now }
 {
-    names.iter().position(|each| name == *each)
+    keys.iter().position(|row| name == row.0)
 }
 
 /// Whether this is the name of a key.

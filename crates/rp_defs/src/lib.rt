@@ -4,22 +4,22 @@
 #![tactic(auto)]
 
 mod attrs;
+mod counting;
 mod definition;
 mod draft;
 mod fault;
-mod groups;
 mod ignored;
 mod keys;
 mod pairs;
 mod reader;
+mod readers;
 mod sections;
 mod setting;
-mod slots;
 #[cfg(test)]
 mod tests_reader;
 #[cfg(test)]
 mod tests_sections;
-mod texts;
+mod value;
 mod values;
 mod want;
 

@@ -1,7 +1,7 @@
 ghost use Rattle.std.specs.Prelude.{◌≡◌, ◌≤◌, All, IfOk, IfErr, Ok, Err, length, map, count_by};
 ghost use Rattle.std.specs.List.{position_or_len};
 ghost use Rattle.rp_base.specs.Answers.{Gives};
-ghost use Rattle.rp_defs.specs.Faults.{no_memory, IsFault};
+ghost use Rattle.rp_defs.specs.Faults.{no_memory, IsFault, IsSoundFault};
 ghost use Rattle.rp_defs.specs.Joints.{joint_of, pair_fault};
 ghost use Rattle.rp_defs.specs.Pairs.{paired, definition_of, has_pair, is_half, is_joined, is_pair, place_of, shared_priority, greater, with_partner};
 ghost use Rattle.rp_defs.specs.WellFormed.{IsSoundDraft, IsWellFormed};
@@ -24,6 +24,7 @@ pub(crate) fn paired(alloc: Global, drafts: List<Draft>) -> Result<List<Definiti
     requires sound { All IsSoundDraft drafts }
     ensures answer { Gives no_memory (paired drafts) result }
     ensures well_formed { IfOk result IsWellFormed }
+    ensures fault { IfErr result IsSoundFault }
 {
     let joints = joints_of(alloc, drafts.as_slice())?;
     with_joints(alloc, drafts, joints.as_slice())
@@ -34,7 +35,8 @@ fn joints_of(alloc: Global, drafts: &[Draft]) -> Result<List<Joint>, DefFault>
     requires few { length drafts.now ≤ 256 }
     ensures joints { IfOk result (λ joints. joints ≡ map (joint_of drafts.now) drafts.now) }
     ensures all { IfOk result (λ _. paired drafts.now ≡ Ok (map (definition_of drafts.now) drafts.now)) }
-    ensures fault { IfErr result (λ fault. Gives no_memory (paired drafts.now) (Err fault)) }
+    ensures answer { IfErr result (λ fault. Gives no_memory (paired drafts.now) (Err fault)) }
+    ensures fault { IfErr result IsSoundFault }
 {
     let mut joints = List::new(alloc);
     for draft in drafts {
@@ -50,7 +52,8 @@ fn joints_of(alloc: Global, drafts: &[Draft]) -> Result<List<Joint>, DefFault>
 
 // The fault of a half that isn't joined.
 fn unpaired(alloc: Global, draft: &Draft) -> DefFault
-    ensures { IsFault (pair_fault draft.now) result }
+    ensures fault { IsFault (pair_fault draft.now) result }
+    ensures sound { IsSoundFault result }
 {
     DefFault::placed(
         alloc,
@@ -68,7 +71,8 @@ fn with_joints(
     joints: &[Joint],
 ) -> Result<List<Definition>, DefFault>
     requires joints { joints.now ≡ map (joint_of drafts) drafts }
-    ensures { Gives no_memory (Ok (map (definition_of drafts) drafts)) result }
+    ensures answer { Gives no_memory (Ok (map (definition_of drafts) drafts)) result }
+    ensures fault { IfErr result IsSoundFault }
 {
     let mut list = List::new(alloc);
     for (draft, joint) in drafts.into_vec().into_iter().zip(joints) {
@@ -105,7 +109,7 @@ fn is_joined(drafts: &[Draft], draft: &Draft) -> bool
 fn has_pair(drafts: &[Draft], draft: &Draft) -> bool
     ensures { result ≡ has_pair drafts.now draft.now }
 {
-    match &draft.key {
+    match &draft.match_key {
         Some(key) => is_pair(drafts, key.as_str()),
         None => false,
     }
@@ -170,7 +174,7 @@ fn place_of(drafts: &[Draft], half: Half, draft: &Draft) -> usize
     ensures place { result ≡ place_of drafts.now half draft.now }
     ensures bound { result ≤ length drafts.now }
 {
-    match &draft.key {
+    match &draft.match_key {
         Some(key) => first_of(drafts, half, key.as_str()),
         None => 0,
     }
@@ -206,7 +210,7 @@ fn first_of(drafts: &[Draft], half: Half, key: &str) -> usize
 fn is_half(draft: &Draft, half: Half, key: &str) -> bool
     ensures { result ≡ is_half half key.now draft.now }
 {
-    match &draft.key {
+    match &draft.match_key {
         Some(own) => half == draft.half && key == own.as_str(),
         None => false,
     }

@@ -4,7 +4,8 @@ ghost use Rattle.rp_base.specs.Answers.{Gives};
 ghost use Rattle.rp_files.specs.Pieces.{ArePieces};
 ghost use Rattle.rp_files.specs.declared.piece.Piece.{Piece as Read};
 ghost use Rattle.rp_defs.specs.Drafting.{drafts_of, with_group, is_part};
-ghost use Rattle.rp_defs.specs.Faults.{no_memory, IsKnown};
+ghost use Rattle.rp_defs.specs.Faults.{no_memory, IsKnown, IsSoundFault};
+ghost use Rattle.rp_defs.specs.declared.fault.DefKind.TheVariants.{Memory as want_of_memory};
 ghost use Rattle.rp_defs.specs.Records.{records};
 ghost use Rattle.rp_defs.specs.WellFormed.{IsSoundDraft, IsWellFormed};
 
@@ -26,7 +27,8 @@ use std::alloc::Global;
 pub fn read(alloc: Global, pieces: &[Piece], arch: Arch) -> Result<Definitions, DefFault>
     requires { ArePieces pieces.now }
     ensures answer { Gives no_memory (records arch pieces.now) result }
-    ensures key { IfErr result (λ fault. IsKnown fault.kind) }
+    ensures known { IfErr result (λ fault. IsKnown fault.kind) }
+    ensures memory { IfErr result (λ fault. fault.kind ≡ want_of_memory → fault ≡ no_memory) }
     ensures well_formed { IfOk result (λ definitions. IsWellFormed definitions.list) }
 {
     let drafts = drafts_of(alloc, pieces, arch)?;
@@ -44,6 +46,7 @@ fn drafts_of(alloc: Global, pieces: &[Piece], arch: Arch) -> Result<Drafts, DefF
     ensures answer { Gives no_memory (drafts_of arch pieces.now) result }
     ensures count { IfOk result (λ drafts. length drafts.list ≤ length pieces.now) }
     ensures sound { IfOk result (λ drafts. All IsSoundDraft drafts.list) }
+    ensures fault { IfErr result IsSoundFault }
 {
     let mut drafts = Drafts {
         list: List::new(alloc),
@@ -96,6 +99,7 @@ fn with_group(
     ensures count { IfOk result (λ more. length more.list ≡ length drafts.list + 1) }
     ensures bound { IfOk result (λ more. more.ignored ≤ drafts.ignored + 65536 * length group.now) }
     ensures sound { IfOk result (λ more. All IsSoundDraft more.list) }
+    ensures fault { IfErr result IsSoundFault }
 {
     let settings = settings_of(alloc, group)?;
     let draft = draft_of(

@@ -1,14 +1,14 @@
 ghost use Rattle.std.specs.Prelude.{◌≡◌, ◌<◌, ◌+◌, ◌^◌, ◌*◌, ◌≤◌, All, IfErr, IfOk, length, sum_by};
 ghost use Rattle.rp_base.specs.Answers.{Gives};
 ghost use Rattle.rp_files.specs.declared.piece.Piece.{Piece as Read};
-ghost use Rattle.rp_defs.specs.Faults.{no_memory, IsFault};
+ghost use Rattle.rp_defs.specs.Faults.{no_memory, IsFault, IsSoundFault};
 ghost use Rattle.rp_defs.specs.Answers.{after};
 ghost use Rattle.rp_defs.specs.Settings.{read_pieces, all_keyed, all_ignored, counting_of, sections_of, keyed_in, ignored_in, line_of};
-ghost use Rattle.rp_defs.specs.Slots.{CountsAlso, IsParsed};
+ghost use Rattle.rp_defs.specs.Counting.{CountsAlso, IsParsed};
 
+use crate::counting::{no_settings, with_assigns};
 use crate::ignored::{PARTITION, ignored_in};
 use crate::setting::Setting;
-use crate::slots::{no_settings, with_assigns};
 use crate::{DefFault, DefKind};
 use rp_base::List;
 use rp_files::Piece;
@@ -28,6 +28,7 @@ pub(crate) fn settings_of(alloc: Global, pieces: &[Piece]) -> Result<Settings, D
     requires short { All (λ (piece : Read). length piece.bytes ≤ 65536) pieces.now }
     ensures answer { Gives no_memory (after (read_pieces pieces.now) (λ read. Ok (record { counting = counting_of (all_keyed read); ignored = all_ignored read }))) result }
     ensures bound { IfOk result (λ settings. settings.ignored ≤ 65536 * length pieces.now) }
+    ensures fault { IfErr result IsSoundFault }
 {
     let Ok(counting) = no_settings(alloc) else {
         return Err(DefFault::starved(alloc));
@@ -50,13 +51,14 @@ fn with_file(
     piece: &Piece,
     file: &File,
 ) -> Result<Settings, DefFault>
-    requires full { length settings.counting ≡ 25 }
+    requires full { length settings.counting ≡ 26 }
     requires room { settings.ignored + 65536 < 2 ^ 32 }
     requires parsed { IsParsed file.now }
     ensures counting { IfOk result (λ now. CountsAlso (keyed_in (piece.now, file.now)) settings.counting now.counting) }
     ensures ignored { IfOk result (λ now. now.ignored ≡ settings.ignored + sum_by ignored_in file.now) }
     ensures bound { IfOk result (λ now. now.ignored ≤ settings.ignored + 65536) }
-    ensures fault { IfErr result (λ fault. fault ≡ no_memory) }
+    ensures starved { IfErr result (λ fault. fault ≡ no_memory) }
+    ensures fault { IfErr result IsSoundFault }
 {
     let ignored = settings.ignored + ignored_in(file);
     match with_assigns(alloc, settings.counting, piece, file.section(PARTITION)) {
@@ -70,6 +72,7 @@ fn sections_of(alloc: Global, piece: &Piece) -> Result<File, DefFault>
     requires { length piece.now.bytes ≤ 65536 }
     ensures answer { Gives no_memory (sections_of piece.now) result }
     ensures parsed { IfOk result IsParsed }
+    ensures fault { IfErr result IsSoundFault }
 {
     match parse(alloc, piece.bytes.as_slice()) {
         Ok(file) => Ok(file),
@@ -81,6 +84,7 @@ fn sections_of(alloc: Global, piece: &Piece) -> Result<File, DefFault>
 fn fault_of(alloc: Global, piece: &Piece, fault: IniFault) -> DefFault
     ensures answer { IsFault (record { file = piece.now.file; part = piece.now.part; line = line_of fault; kind = DefKind.Ini fault }) result }
     ensures memory { fault ≡ IniFault.Memory → result ≡ no_memory }
+    ensures sound { IsSoundFault result }
 {
     match fault {
         IniFault::NotUtf8 { line }

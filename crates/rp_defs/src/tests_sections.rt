@@ -36,9 +36,9 @@ fn shown(rt: &impl AllocGlobal, pieces: &[Piece]) -> Result<String, Fail> {
         Err(fault) => write!(text, "{} line {}: {fault}", fault.part.as_str(), fault.line)?,
         Ok(settings) => {
             let mut key = 0u8;
-            for slot in settings.counting.as_slice() {
-                if let Some(setting) = slot
-                    && key < 25
+            for set in settings.counting.as_slice() {
+                if let Some(setting) = set
+                    && key < 26
                 {
                     let value = setting.value.as_str();
                     let part = setting.part.as_str();

@@ -2,7 +2,8 @@ ghost use Rattle.std.specs.Prelude.{◌≡◌};
 ghost use Rattle.rp_defs.specs.Records.{max_of, min_of, want_of};
 
 use crate::draft::Half;
-use crate::groups::Sizes;
+use crate::keys::Key;
+use crate::value::{Value, size_in, weight_in};
 use rp_base::{GRAIN, UNLIMITED, Want};
 
 /// The minimum that is asked for where none is set, in grains: 10 MiB.
@@ -14,24 +15,25 @@ const USUAL_WEIGHT: u64 = 1000;
 /// What a definition asks for, in grains. Half of a verity pair has no weight, and it may have no grain; any other has
 /// one at least.
 #[tactic(auto, unfolding(crate::specs::Records::want_of))]
-pub(crate) fn want_of(half: Half, sizes: Sizes) -> Want
-    ensures { result ≡ want_of half sizes }
+pub(crate) fn want_of(half: Half, values: &[Option<Value>]) -> Want
+    ensures { result ≡ want_of half values.now }
 {
-    let max = max_of(sizes.max);
+    let max = max_of(size_in(values, Key::SizeMaxBytes));
+    let set_min = size_in(values, Key::SizeMinBytes);
     let (min, weight) = match half {
         Half::Off => (
-            min_of(sizes.min, USUAL_MIN.min(max)).max(1),
-            sizes.weight.unwrap_or(USUAL_WEIGHT),
+            min_of(set_min, USUAL_MIN.min(max)).max(1),
+            weight_in(values, Key::Weight).unwrap_or(USUAL_WEIGHT),
         ),
-        Half::Data | Half::Hash => (min_of(sizes.min, 0), 0),
+        Half::Data | Half::Hash => (min_of(set_min, 0), 0),
     };
     Want {
         min,
         max,
         weight,
-        pad_min: min_of(sizes.pad_min, 0),
-        pad_max: max_of(sizes.pad_max),
-        pad_weight: sizes.pad_weight.unwrap_or(0),
+        pad_min: min_of(size_in(values, Key::PaddingMinBytes), 0),
+        pad_max: max_of(size_in(values, Key::PaddingMaxBytes)),
+        pad_weight: weight_in(values, Key::PaddingWeight).unwrap_or(0),
     }
 }
 

@@ -77,9 +77,11 @@ fn push_definitions(text: &mut String, definitions: &Definitions) -> Result<(), 
 fn push_load_fault(text: &mut String, fault: &LoadFault) -> Result<(), AllocError> {
     match fault {
         LoadFault::TooBig { file, part } => {
-            writeln!(text, "{} {}: {fault}", file.as_str(), part.as_str())
+            writeln!(text, "{} {}:0 TooBig", file.as_str(), part.as_str())
         }
-        _ => writeln!(text, "{fault}"),
+        LoadFault::TooMany => writeln!(text, "TooMany"),
+        LoadFault::FolderFault => writeln!(text, "FolderFault"),
+        LoadFault::Memory => writeln!(text, "Memory"),
     }
 }
 
@@ -130,6 +132,9 @@ fn push_definition(text: &mut String, definition: &Definition) -> Result<(), All
         Verity::Off => {}
         Verity::Data { partner } => write!(text, " data {partner}")?,
         Verity::Hash { partner } => write!(text, " hash {partner}")?,
+    }
+    if let Some(name) = &definition.split {
+        write!(text, " split {}", name.as_str())?;
     }
     if let Some(label) = definition.label {
         text.push_str(" label ")?;

@@ -43,7 +43,7 @@ pub fn push_fault(text: &mut String, fault: &DefFault) -> Result<(), Fail>
 }
 
 fn push_key(text: &mut String, kind: &str, key: u8) -> Result<(), AllocError>
-    requires { key < 25 }
+    requires { key < 26 }
 {
     text.push_str(kind)?;
     text.push_str(" ")?;
@@ -78,6 +78,9 @@ pub fn push_definition(text: &mut String, definition: &Definition) -> Result<(),
     }
     if definition.factory_reset {
         text.push_str(" reset")?;
+    }
+    if let Some(name) = &definition.split {
+        write!(text, " split {}", name.as_str())?;
     }
     Ok(())
 }

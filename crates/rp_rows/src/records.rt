@@ -164,7 +164,10 @@ Type=swap & +Weight=x => a.conf.d/1.conf:2 BadValue Weight
 Type=nothing & +!|x => a.conf.d/1.conf:2 BadLine
 Type=swap|Label=a & +Label=b|Weight=1 & +Weight=2 & Type=esp & +Label=c => swap label b weight 2; esp label c
 Type=swap|[Other]|A=1|B=2 => swap; ignored 2
-Type=swap|X=1|X=|SplitName=a & +Y=1 & Type=esp|Z=1 => swap; esp; ignored 5
+Type=swap|X=1|X=|SplitName=a & +Y=1 & Type=esp|Z=1 => swap split a; esp; ignored 4
+Type=swap|SplitName=%a.raw & Type=esp|SplitName=- => swap split x86-64.raw; esp
+Type=swap|SplitName=a/b => a.conf:3 BadValue SplitName
+Type=swap|Subvolumes=x|SplitName=.. => a.conf:3 Unsupported Subvolumes
 ![partition]|Type=swap => a.conf:0 NoType
 ![A]|Type=x|[Partition]|Type=swap|[A]|Type=y|[Partition]|Weight=3 => swap weight 3; ignored 2
 !Weight=1 => a.conf:1 NoSection
@@ -173,7 +176,7 @@ Type=swap|X=1|X=|SplitName=a & +Y=1 & Type=esp|Z=1 => swap; esp; ignored 5
 ";
 
 // How many rows there are.
-const COUNT: u64 = 155;
+const COUNT: u64 = 158;
 
 const LETTERS: &str = "abcdefghijklmnopqrstuvwxyz012345";
 

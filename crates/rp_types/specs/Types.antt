@@ -12,8 +12,8 @@ use Rattle.rp_types.specs.declared.table.PartitionType.{PartitionType}
 use Rattle.rp_types.specs.Table.{types}
 
 -- a name and a type, where the name was lent
-abbrev pub shown : Bor (List ℕ) × PartitionType → List ℕ × PartitionType
-shown entry = (entry.0.now, entry.1)
+abbrev pub as_listed : Bor (List ℕ) × PartitionType → List ℕ × PartitionType
+as_listed entry = (entry.0.now, entry.1)
 
 -- whether an entry is called this: by its own name, or by its designator's
 abbrev pub is_called : List ℕ → Arch → List ℕ × PartitionType → Bool

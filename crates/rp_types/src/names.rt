@@ -1,7 +1,7 @@
 ghost use Rattle.std.specs.Prelude.{◌≡◌, ◌≢◌, ◌≤◌, IfSome, length, option_copied, option_map, replicate, Some};
 ghost use Rattle.rp_types.specs.declared.arch.Arch.{Arch};
 ghost use Rattle.rp_types.specs.Designators.{designator_name};
-ghost use Rattle.rp_types.specs.Types.{bits_of, by_guid, by_name, designator_of, entry_of, is_called, shown};
+ghost use Rattle.rp_types.specs.Types.{bits_of, by_guid, by_name, designator_of, entry_of, is_called, as_listed};
 
 use crate::table::{PartitionType, types};
 use crate::{Arch, Designator};
@@ -72,7 +72,7 @@ pub fn bits(kind: Guid) -> u64
 
 // The entry of a type.
 fn entry_of(kind: Guid) -> Option<&'static (&'static str, PartitionType)>
-    ensures { option_map (λ e. shown e.now) result ≡ entry_of kind }
+    ensures { option_map (λ e. as_listed e.now) result ≡ entry_of kind }
 {
     for entry in types() {
         if entry.1.kind == kind {

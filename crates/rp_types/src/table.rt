@@ -1,7 +1,7 @@
 ghost use Rattle.std.specs.Prelude.{◌≡◌, map};
 ghost use Rattle.rp_types.specs.Rules.{IsTable};
 ghost use Rattle.rp_types.specs.Table.{types};
-ghost use Rattle.rp_types.specs.Types.{shown};
+ghost use Rattle.rp_types.specs.Types.{as_listed};
 
 use crate::{Arch, Designator, GROW_FILE_SYSTEM, NO_AUTO, READ_ONLY};
 use rp_base::Guid;
@@ -144,7 +144,7 @@ pub(crate) static TYPES: [(&str, PartitionType); 20] = [
 
 /// The types that have names, each with its name.
 pub(crate) fn types() -> &'static [(&'static str, PartitionType)]
-    ensures entries { map shown result.now ≡ types }
+    ensures entries { map as_listed result.now ≡ types }
     ensures rule { IsTable types }
 {
     &TYPES

@@ -3,4 +3,4 @@ use Rattle.rp_defs.proofs.KeyLemmas.{place_of-lent}
 use Rattle.rp_defs.proofs.keys.place_of.Goals as goal
 
 pub returns : goal.returns
-returns c = c.place_in.ensures ∙ place_of-lent c.args.name.now c.names.result.now c.names.ensures
+returns c = c.place_in.ensures ∙ place_of-lent c.args.name.now c.keys.result.now c.keys.ensures

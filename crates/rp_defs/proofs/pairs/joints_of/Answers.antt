@@ -5,13 +5,13 @@ use Rattle.rp_types.proofs.Finding.{find_more, find_here}
 use Rattle.rp_defs.proofs.PairLemmas.{is_unjoined, fault_gives, joints_more, paired_all, pushed_ok}
 use Rattle.rp_defs.proofs.pairs.joints_of.Goals as goal
 
-pub returns-then-not-is_joined-clause-fault : goal.returns-then-not-is_joined-clause-fault
-returns-then-not-is_joined-clause-fault c =
+pub returns-then-not-is_joined-clause-answer : goal.returns-then-not-is_joined-clause-answer
+returns-then-not-is_joined-clause-answer c =
     let drafts = c.args.drafts.now in
     let unjoined = is_unjoined drafts in
     let fails = ap unjoined (sym c.draft-item.is) ∙ ap not (sym c.is_joined.ensures) ∙ ap not c.if-not-is_joined.true in
     let found = find_here unjoined drafts c.loop-draft.draft-index c.draft-item.result c.loop-draft-test.true c.loop-draft.invariant.all fails in
-    fault_gives drafts c.draft-item.result c.unpaired.result (found ∙ ap Some (sym c.draft-item.is)) c.unpaired.ensures
+    fault_gives drafts c.draft-item.result c.unpaired.result (found ∙ ap Some (sym c.draft-item.is)) c.unpaired.ensures.fault
 
 pub loop-draft-preserved : goal.loop-draft-preserved
 loop-draft-preserved c =

@@ -4,7 +4,6 @@ use Rattle.rp_defs.specs.Drafting.{drafts_of}
 use Rattle.rp_defs.specs.Faults.{no_memory}
 use Rattle.rp_defs.specs.Pairs.{paired}
 use Rattle.rp_defs.proofs.DraftLemmas.{records_is, with_pairs, gives_fault, gives_value, gives_same}
-use Rattle.rp_defs.proofs.KnownLemmas.{gives_known}
 use Rattle.rp_defs.proofs.reader.read.Goals as goal
 
 pub returns-in_err-drafts-clause-answer : goal.returns-in_err-drafts-clause-answer
@@ -24,9 +23,3 @@ returns-clause-answer c =
     let drafts = c.in_ok-drafts.drafts in
     let so_far = records_is c.args.arch c.args.pieces.now ∙ gives_value no_memory (drafts_of c.args.arch c.args.pieces.now) with_pairs drafts c.in_ok-drafts.ensures.answer in
     gives_same no_memory _ _ _ (so_far ∙ gives_value no_memory (paired drafts.list) _ c.in_ok-list.list c.in_ok-list.ensures.answer) (inl refl)
-
-pub returns-in_err-drafts-clause-key : goal.returns-in_err-drafts-clause-key
-returns-in_err-drafts-clause-key c = gives_known c.args.arch c.args.pieces.now _ (returns-in_err-drafts-clause-answer c)
-
-pub returns-in_err-list-clause-key : goal.returns-in_err-list-clause-key
-returns-in_err-list-clause-key c = gives_known c.args.arch c.args.pieces.now _ (returns-in_err-list-clause-answer c)

@@ -1,10 +1,10 @@
 use Rattle.std.proofs.Common.{◌≡◌, ap, ◌∙◌, replicate, Option, None, arith}
 use Rattle.rp_defs.specs.Settings.{counting_of}
 use Rattle.rp_defs.specs.declared.setting.Setting.{Setting}
-use Rattle.rp_defs.proofs.slots.no_settings.Goals as goal
+use Rattle.rp_defs.proofs.counting.no_settings.Goals as goal
 
 pub returns : goal.returns
 unfolding counting_of
 returns c =
-    let all : c.loop.counter ≡ 25 = omega arith in let none : Option Setting = None in
+    let all : c.loop.counter ≡ 26 = omega arith in let none : Option Setting = None in
     c.loop.invariant ∙ ap (λ n. replicate n none) all

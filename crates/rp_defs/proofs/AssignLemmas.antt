@@ -1,4 +1,4 @@
--- The settings that count after one more assignment: the slot of its key takes it.
+-- The settings that count after one more assignment: the place of its key takes it.
 use Rattle.std.proofs.Common.{◌≡◌, ℕ, suc, ◌+◌, ◌<◌, List, [], ◌∷◌, ◌++◌, Bool, true, false, cond, ◌||◌, not, Option, Some, None, length, map, take, get_or, position, refl, ap, sym, ◌∙◌, arith, append_assoc}
 use Rattle.std.specs.Prelude.{find, reverse}
 use Rattle.std.specs.List.{list_any, position_or_len}
@@ -14,32 +14,32 @@ use Rattle.rp_ini.specs.declared.assign.Assign.{Assign}
 use Rattle.rp_defs.specs.declared.setting.Setting.{Setting}
 use Rattle.rp_defs.specs.Keys.{key_names}
 use Rattle.rp_defs.specs.Settings.{Keyed, keyed, unless_empty, counting, counting_of}
-use Rattle.rp_defs.specs.Slots.{CountsAlso, differ}
+use Rattle.rp_defs.specs.Counting.{CountsAlso, differ}
 use Rattle.rp_defs.proofs.KeyLemmas.{absent}
 
-abbrev Slot : Type 0
-Slot = Option Setting
+abbrev MaybeSet : Type 0
+MaybeSet = Option Setting
 
 keys_differ : differ key_names ≡ true
 keys_differ = refl
 
-kept_at : (b rest : Bool) (value slot : Slot) (now before : List Slot) → (b || rest) ≡ false → (rest ≡ false → now ≡ before) → cond b value slot ∷ now ≡ slot ∷ before
-kept_at true rest value slot now before h then = absurd (cc)
-kept_at false rest value slot now before h then = ap (λ slots. slot ∷ slots) (then h)
+kept_at : (b rest : Bool) (value setting : MaybeSet) (now before : List MaybeSet) → (b || rest) ≡ false → (rest ≡ false → now ≡ before) → cond b value setting ∷ now ≡ setting ∷ before
+kept_at true rest value setting now before h then = absurd (cc)
+kept_at false rest value setting now before h then = ap (λ settings. setting ∷ settings) (then h)
 
--- a key without a slot changes none
-kept : (key : List ℕ) (value : Slot) (f : List ℕ → Slot) (names : List (List ℕ)) → list_any (bytes_eq key) names ≡ false
+-- a key without a place changes none
+kept : (key : List ℕ) (value : MaybeSet) (f : List ℕ → MaybeSet) (names : List (List ℕ)) → list_any (bytes_eq key) names ≡ false
     → map (λ name. cond (bytes_eq key name) value (f name)) names ≡ map f names
 kept key value f [] h = refl
 kept key value f (name ∷ names) h = kept_at (bytes_eq key name) (list_any (bytes_eq key) names) value (f name) _ _ h (kept key value f names)
 
-taken_at : (b : Bool) (m size : ℕ) (value slot : Slot) (now before : List Slot) → cond (not b) (1 + m) 0 < suc size → (b ≡ true → now ≡ before) → (m < size → now ≡ set before m value)
-    → cond b value slot ∷ now ≡ set (slot ∷ before) (cond (not b) (1 + m) 0) value
-taken_at true m size value slot now before lt same then = ap (λ slots. value ∷ slots) (same refl)
-taken_at false m size value slot now before lt same then = let e : 1 + m ≡ suc m = omega arith in rw e (ap (λ slots. slot ∷ slots) (then (omega arith)))
+taken_at : (b : Bool) (m size : ℕ) (value setting : MaybeSet) (now before : List MaybeSet) → cond (not b) (1 + m) 0 < suc size → (b ≡ true → now ≡ before) → (m < size → now ≡ set before m value)
+    → cond b value setting ∷ now ≡ set (setting ∷ before) (cond (not b) (1 + m) 0) value
+taken_at true m size value setting now before lt same then = ap (λ settings. value ∷ settings) (same refl)
+taken_at false m size value setting now before lt same then = let e : 1 + m ≡ suc m = omega arith in rw e (ap (λ settings. setting ∷ settings) (then (omega arith)))
 
--- a key with a slot changes that one alone
-taken : (key : List ℕ) (value : Slot) (f : List ℕ → Slot) (names : List (List ℕ)) → differ names ≡ true → position_or_len (bytes_eq key) names < length names
+-- a key with a place changes that one alone
+taken : (key : List ℕ) (value : MaybeSet) (f : List ℕ → MaybeSet) (names : List (List ℕ)) → differ names ≡ true → position_or_len (bytes_eq key) names < length names
     → map (λ name. cond (bytes_eq key name) value (f name)) names ≡ set (map f names) (position_or_len (bytes_eq key) names) value
 taken key value f [] apart lt = absurd (omega arith)
 taken key value f (name ∷ names) apart lt =
@@ -67,33 +67,33 @@ unfolding counting_of
 counting_of-push all one = map_same (counting (all ++ one ∷ [])) (λ name. cond (bytes_eq one.0 name) (unless_empty one) (counting all name)) key_names (counting-push all one)
 
 -- an assignment of an unknown key counts nowhere
-pub counts_unknown : (one : Keyed) (slots : List Slot) → None ≡ position (bytes_eq one.0) key_names → CountsAlso (one ∷ []) slots slots
+pub counts_unknown : (one : Keyed) (settings : List MaybeSet) → None ≡ position (bytes_eq one.0) key_names → CountsAlso (one ∷ []) settings settings
 unfolding counting_of
-counts_unknown one slots none earlier was =
+counts_unknown one settings none earlier was =
     was ∙ sym (kept one.0 (unless_empty one) (counting earlier) key_names (absent one.0 none)) ∙ sym (counting_of-push earlier one)
 
--- an assignment of a key counts in its slot
-pub counts_known : (one : Keyed) (slots now : List Slot) (place : ℕ) → Some place ≡ position (bytes_eq one.0) key_names → now ≡ set slots place (unless_empty one) → CountsAlso (one ∷ []) slots now
+-- an assignment of a key counts in its place
+pub counts_known : (one : Keyed) (settings now : List MaybeSet) (place : ℕ) → Some place ≡ position (bytes_eq one.0) key_names → now ≡ set settings place (unless_empty one) → CountsAlso (one ∷ []) settings now
 unfolding counting_of
-counts_known one slots now place found is earlier was =
+counts_known one settings now place found is earlier was =
     let parts = cond_some _ _ _ (sym found) in
-    is ∙ ap (λ (s : List Slot). set s place (unless_empty one)) was ∙ ap (λ p. set (counting_of earlier) p (unless_empty one)) (sym parts.1)
+    is ∙ ap (λ (s : List MaybeSet). set s place (unless_empty one)) was ∙ ap (λ p. set (counting_of earlier) p (unless_empty one)) (sym parts.1)
     ∙ sym (taken one.0 (unless_empty one) (counting earlier) key_names keys_differ (ltb-true _ _ parts.0)) ∙ sym (counting_of-push earlier one)
 
-pub place_within : (key : List ℕ) (place : ℕ) → Some place ≡ position (bytes_eq key) key_names → place < 25
+pub place_within : (key : List ℕ) (place : ℕ) → Some place ≡ position (bytes_eq key) key_names → place < 26
 place_within key place found =
     let parts = cond_some _ _ _ (sym found) in let lt = ltb-true _ _ parts.0 in omega (arith, lt, parts.1)
 
-pub counts_then : (first second : List Keyed) (slots then now : List Slot) → CountsAlso first slots then → CountsAlso second then now → CountsAlso (first ++ second) slots now
-counts_then first second slots then now a b earlier was = b (earlier ++ first) (a earlier was) ∙ ap counting_of (append_assoc earlier first second)
+pub counts_then : (first second : List Keyed) (settings then now : List MaybeSet) → CountsAlso first settings then → CountsAlso second then now → CountsAlso (first ++ second) settings now
+counts_then first second settings then now a b earlier was = b (earlier ++ first) (a earlier was) ∙ ap counting_of (append_assoc earlier first second)
 
-pub counts_none : (slots : List Slot) → CountsAlso [] slots slots
-counts_none slots earlier was = was ∙ ap counting_of (sym (append-nil earlier))
+pub counts_none : (settings : List MaybeSet) → CountsAlso [] settings settings
+counts_none settings earlier was = was ∙ ap counting_of (sym (append-nil earlier))
 
 -- one more of some assignments
-pub counts_more : (piece : Piece) (assigns : List Assign) (i : ℕ) (assign : Assign) (slots then now : List Slot) → i < length assigns → assign ≡ get_or assigns i assign
-    → CountsAlso (map (keyed piece) (take i assigns)) slots then → CountsAlso (keyed piece assign ∷ []) then now → CountsAlso (map (keyed piece) (take (i + 1) assigns)) slots now
-counts_more piece assigns i assign slots then now lt is a b earlier was =
-    counts_then (map (keyed piece) (take i assigns)) (keyed piece assign ∷ []) slots then now a b earlier was
+pub counts_more : (piece : Piece) (assigns : List Assign) (i : ℕ) (assign : Assign) (settings then now : List MaybeSet) → i < length assigns → assign ≡ get_or assigns i assign
+    → CountsAlso (map (keyed piece) (take i assigns)) settings then → CountsAlso (keyed piece assign ∷ []) then now → CountsAlso (map (keyed piece) (take (i + 1) assigns)) settings now
+counts_more piece assigns i assign settings then now lt is a b earlier was =
+    counts_then (map (keyed piece) (take i assigns)) (keyed piece assign ∷ []) settings then now a b earlier was
     ∙ ap (λ (sets : List Keyed). counting_of (earlier ++ sets)) (sym (ap (map (keyed piece)) (take_more assigns i assign lt ∙ ap (λ (x : Assign). take i assigns ++ x ∷ []) (sym is))
     ∙ map-append (keyed piece) (take i assigns) (assign ∷ [])))

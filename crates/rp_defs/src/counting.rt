@@ -1,6 +1,6 @@
 ghost use Rattle.std.specs.Prelude.{◌≡◌, ◌<◌, [], ◌∷◌, map, length, slice_set, IfOk};
 ghost use Rattle.rp_defs.specs.Settings.{counting_of, keyed, unless_empty};
-ghost use Rattle.rp_defs.specs.Slots.{CountsAlso};
+ghost use Rattle.rp_defs.specs.Counting.{CountsAlso};
 
 use crate::keys::{KEYS, place_of};
 use crate::setting::Setting;
@@ -11,61 +11,61 @@ use std::alloc::Global;
 
 /// The settings that count where nothing is assigned: of each key none.
 pub(crate) fn no_settings(alloc: Global) -> Result<List<Option<Setting>>, Memory>
-    ensures { IfOk result (λ slots. slots ≡ counting_of []) }
+    ensures { IfOk result (λ counting. counting ≡ counting_of []) }
 {
-    let mut slots = List::new(alloc);
+    let mut counting = List::new(alloc);
     for _ in 0..KEYS {
-        slots.push(None)?;
+        counting.push(None)?;
     }
-    Ok(slots)
+    Ok(counting)
 }
 
 /// The settings that count after some assignments of a piece.
 pub(crate) fn with_assigns(
     alloc: Global,
-    slots: List<Option<Setting>>,
+    counting: List<Option<Setting>>,
     piece: &Piece,
     assigns: &[Assign],
 ) -> Result<List<Option<Setting>>, Memory>
-    requires { length slots ≡ 25 }
-    ensures also { IfOk result (CountsAlso (map (keyed piece.now) assigns.now) slots) }
+    requires { length counting ≡ 26 }
+    ensures also { IfOk result (CountsAlso (map (keyed piece.now) assigns.now) counting) }
 {
-    let mut slots = slots;
+    let mut counting = counting;
     for assign in assigns {
-        slots = with_assign(alloc, slots, piece, assign)?;
+        counting = with_assign(alloc, counting, piece, assign)?;
     }
-    Ok(slots)
+    Ok(counting)
 }
 
 // The settings that count after one more assignment; that of an unknown key counts nowhere.
 fn with_assign(
     alloc: Global,
-    slots: List<Option<Setting>>,
+    counting: List<Option<Setting>>,
     piece: &Piece,
     assign: &Assign,
 ) -> Result<List<Option<Setting>>, Memory>
-    requires { length slots ≡ 25 }
-    ensures also { IfOk result (CountsAlso (keyed piece.now assign.now ∷ []) slots) }
-    ensures full { IfOk result (λ now. length now ≡ 25) }
+    requires { length counting ≡ 26 }
+    ensures also { IfOk result (CountsAlso (keyed piece.now assign.now ∷ []) counting) }
+    ensures full { IfOk result (λ now. length now ≡ 26) }
 {
     let Some(place) = place_of(assign.key.as_str()) else {
-        return Ok(slots);
+        return Ok(counting);
     };
     let setting = setting_of(alloc, piece, assign)?;
-    Ok(with_slot(slots, place, setting))
+    Ok(with_setting(counting, place, setting))
 }
 
-fn with_slot(
-    slots: List<Option<Setting>>,
+fn with_setting(
+    counting: List<Option<Setting>>,
     place: usize,
     setting: Option<Setting>,
 ) -> List<Option<Setting>>
-    requires { place < length slots }
-    ensures { result ≡ slice_set slots place setting }
+    requires { place < length counting }
+    ensures { result ≡ slice_set counting place setting }
 {
-    let mut slots = slots.into_vec();
-    slots[place] = setting;
-    List::from_vec(slots)
+    let mut counting = counting.into_vec();
+    counting[place] = setting;
+    List::from_vec(counting)
 }
 
 // The setting of an assignment, none where its value is empty.
