@@ -1,7 +1,6 @@
 -- Faults are sound: a kind that is known, and want of memory without a place.
 use Rattle.std.proofs.Common.{◌≡◌, ◌≢◌, inl, inr, refl, sym, subst}
 use Rattle.rp_defs.specs.declared.fault.DefFault.{DefFault}
-use Rattle.rp_defs.specs.declared.fault.DefKind.{DefKind}
 use Rattle.rp_defs.specs.declared.fault.DefKind.TheVariants.{Memory}
 use Rattle.rp_defs.specs.Faults.{no_memory, IsFault, IsKnown, IsSoundFault}
 

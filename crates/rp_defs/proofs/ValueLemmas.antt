@@ -1,5 +1,5 @@
 -- The values of keys, one key after another.
-use Rattle.std.proofs.Common.{◌≡◌, ℕ, zero, suc, ◌+◌, ◌<◌, List, ◌∷◌, [], ◌++◌, Option, Result, Ok, Err, inl, inr, ap, refl, sym, ◌∙◌, arith}
+use Rattle.std.proofs.Common.{◌≡◌, ℕ, zero, suc, ◌+◌, ◌<◌, List, ◌∷◌, [], ◌++◌, Option, Result, Ok, Err, inl, inr, ap, sym, ◌∙◌, arith}
 use Rattle.std.specs.List.{range_with_len}
 use Rattle.rp_base.specs.Answers.{Gives}
 use Rattle.rp_defs.specs.declared.fault.DefFault.{DefFault}

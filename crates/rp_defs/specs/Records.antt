@@ -1,5 +1,5 @@
 -- Definitions as records (repart.d(5)): a definition from what its pieces set, and all definitions of the pieces.
-use Rattle.std.specs.Prelude.{ℕ, ℤ, ◌+◌, ◌/◌, ◌^◌, min, max, pos, List, [], ◌∷◌, Bool, true, false, ◌||◌, ◌==◌, nat_lt, if◌then◌else◌, Option, Some, None, Result, Ok, Err, map, sum_by, unwrap_or, bit_and, codes}
+use Rattle.std.specs.Prelude.{ℕ, ℤ, ◌+◌, ◌/◌, ◌^◌, min, max, pos, List, [], ◌∷◌, Bool, true, false, ◌||◌, ◌==◌, nat_lt, if◌then◌else◌, Option, Result, Ok, Err, map, sum_by, unwrap_or, bit_and, codes}
 use Rattle.std.specs.List.{list_any}
 use Rattle.std.specs.Option.{option_map_or}
 use Rattle.rp_base.specs.declared.guid.Guid.{Guid}

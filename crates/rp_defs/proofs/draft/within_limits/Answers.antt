@@ -1,4 +1,4 @@
-use Rattle.std.proofs.Common.{◌≡◌, ℕ, List, Option, Ok, true, false, ap, sym, subst, ◌∙◌, inl}
+use Rattle.std.proofs.Common.{◌≡◌, ℕ, List, Option, Ok, ap, sym, subst, ◌∙◌, inl}
 use Rattle.rp_base.specs.declared.want.Want.{Want}
 use Rattle.rp_defs.specs.declared.draft.Half.{Half}
 use Rattle.rp_defs.specs.declared.value.Value.{Value}

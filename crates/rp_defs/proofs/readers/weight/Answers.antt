@@ -1,4 +1,4 @@
-use Rattle.std.proofs.Common.{◌∙◌, ◌^◌, sym}
+use Rattle.std.proofs.Common.{◌∙◌, sym}
 use Rattle.rp_defs.proofs.BoundLemmas.{bound_of, weight_of_bound}
 use Rattle.rp_defs.proofs.readers.weight.Goals as goal
 

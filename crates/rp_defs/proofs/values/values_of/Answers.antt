@@ -1,4 +1,4 @@
-use Rattle.std.proofs.Common.{◌≡◌, ◌∙◌, List, Option, Ok, ap, sym, inl, arith}
+use Rattle.std.proofs.Common.{◌≡◌, ◌∙◌, Option, Ok, ap, sym, inl, arith}
 use Rattle.std.specs.Prelude.{IfSome}
 use Rattle.std.specs.List.{range_with_len}
 use Rattle.std.proofs.lemmas.List.Elements.{All-nil, All-push, All-same}
