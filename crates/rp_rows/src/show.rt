@@ -34,29 +34,34 @@ const ESP_64_KIB: Numbers = Numbers {
     ..ESP_64_MIB
 };
 
-// Sectors of 4,096 bytes: 16,384 of them, four for an array.
+// 16 sectors of 4,096 bytes, four of them for an array.
 const ESP_OF_4096: Numbers = Numbers {
     sector: 4096,
-    end: 16_383,
-    first: 256,
-    last: 16_378,
-    start: 256,
-    stop: 2815,
-    ..ESP_64_MIB
+    end: 15,
+    first: 6,
+    last: 10,
+    start: 6,
+    stop: 8,
+    ..ESP_64_KIB
 };
 
+// 256 sectors, 64 of them for an array.
 const SWAP_OF_256: Numbers = Numbers {
     entries: 256,
-    last: 131_006,
+    end: 255,
+    first: 66,
+    last: 190,
     slot: 200,
     kind: SWAP,
+    start: 72,
+    stop: 79,
     count: 256,
-    ..ESP_64_MIB
+    ..ESP_64_KIB
 };
 
-const MIB_64: usize = 64 << 20;
+const KIB_64: usize = 64 << 10;
 
-const BACKUP_ARRAY: usize = 131_039 * 512;
+const BACKUP_ARRAY: usize = 95 * 512;
 
 const TABLE_64_MIB: &str =
     "table primary sectors 131072 usable 2048-131038 disk aaaaaaaa-bbbb-4ccc-8ddd-eeeeeeeeeeee
@@ -64,23 +69,24 @@ const TABLE_64_MIB: &str =
 copies primary=same backup=same mbr=same
 ";
 
-const JSON_64_MIB: &str = "{\"backup\":\"same\",\"disk\":\"aaaaaaaa-bbbb-4ccc-8ddd-eeeeeeeeeeee\",\"mbr\":\"same\",\"origin\":\"primary\",\"primary\":\"same\",\"rows\":[{\"attrs\":\"0000000000000000\",\"id\":\"11111111-2222-4333-8444-555555555555\",\"name\":\"EFI\",\"size\":20480,\"slot\":0,\"start\":2048,\"type\":\"esp\"}],\"sectors\":131072,\"usable\":[2048,131038]}\n";
+const JSON_64_MIB: &str =
+    "{\"backup\":\"same\",\"disk\":\"aaaaaaaa-bbbb-4ccc-8ddd-eeeeeeeeeeee\",\"mbr\":\"same\",\"origin\":\"primary\",\"primary\":\"same\",\"rows\":[{\"attrs\":\"0000000000000000\",\"id\":\"11111111-2222-4333-8444-555555555555\",\"name\":\"EFI\",\"size\":20480,\"slot\":0,\"start\":2048,\"type\":\"esp\"}],\"sectors\":131072,\"usable\":[2048,131038]}\n";
 
 const TABLE_OF_4096: &str =
-    "table primary sectors 131072 usable 2048-131031 disk aaaaaaaa-bbbb-4ccc-8ddd-eeeeeeeeeeee
-0 esp start 2048 size 20480 id 11111111-2222-4333-8444-555555555555 attrs 0000000000000000 name \"EFI\"
+    "table primary sectors 128 usable 48-87 disk aaaaaaaa-bbbb-4ccc-8ddd-eeeeeeeeeeee
+0 esp start 48 size 24 id 11111111-2222-4333-8444-555555555555 attrs 0000000000000000 name \"EFI\"
 copies primary=same backup=same mbr=same
 ";
 
 const TABLE_OF_256: &str =
-    "table primary sectors 131072 usable 2048-131006 disk aaaaaaaa-bbbb-4ccc-8ddd-eeeeeeeeeeee
-200 swap start 2048 size 20480 id 11111111-2222-4333-8444-555555555555 attrs 0000000000000000 name \"EFI\"
+    "table primary sectors 256 usable 66-190 disk aaaaaaaa-bbbb-4ccc-8ddd-eeeeeeeeeeee
+200 swap start 72 size 8 id 11111111-2222-4333-8444-555555555555 attrs 0000000000000000 name \"EFI\"
 copies primary=same backup=same mbr=same
 ";
 
-const BACKUP_64_MIB: &str =
-    "table backup sectors 131072 usable 2048-131038 disk aaaaaaaa-bbbb-4ccc-8ddd-eeeeeeeeeeee
-0 esp start 2048 size 20480 id 11111111-2222-4333-8444-555555555555 attrs 0000000000000000 name \"EFI\"
+const BACKUP_64_KIB: &str =
+    "table backup sectors 128 usable 34-94 disk aaaaaaaa-bbbb-4ccc-8ddd-eeeeeeeeeeee
+0 esp start 40 size 48 id 11111111-2222-4333-8444-555555555555 attrs 0000000000000000 name \"EFI\"
 copies primary=differs backup=same mbr=same
 ";
 
@@ -126,16 +132,21 @@ const SMALL: Case = Case {
 };
 
 #[test]
+fn an_image_of_64_mib_as_text_and_as_json(rt: HostRuntime) -> Result<(), Fail> {
+    check(&rt, GOOD)?;
+    let json = Case {
+        what: "JSON",
+        words: "show --json=short --sector-size=512 image",
+        printed: JSON_64_MIB,
+        ..GOOD
+    };
+    check(&rt, json)
+}
+
+#[test]
 fn rows(rt: HostRuntime) -> Result<(), Fail> {
     for case in [
-        GOOD,
         SMALL,
-        Case {
-            what: "JSON",
-            words: "show --json=short --sector-size=512 image",
-            printed: JSON_64_MIB,
-            ..GOOD
-        },
         Case {
             what: "sectors of 4,096 bytes",
             numbers: ESP_OF_4096,
@@ -148,7 +159,7 @@ fn rows(rt: HostRuntime) -> Result<(), Fail> {
             words: "show --sector-size=4096 --json=off image",
             status: 4,
             printed: "error 4 NoTable\n",
-            ..GOOD
+            ..SMALL
         },
         Case {
             what: "256 entries",
@@ -180,29 +191,29 @@ fn rows(rt: HostRuntime) -> Result<(), Fail> {
         Case {
             what: "a bit of the primary header",
             turned: (512 + 16, 0),
-            printed: BACKUP_64_MIB,
-            ..GOOD
+            printed: BACKUP_64_KIB,
+            ..SMALL
         },
         Case {
             what: "a bit of each array",
             turned: (1024, BACKUP_ARRAY),
             status: 4,
             printed: "error 4 NoTable\n",
-            ..GOOD
+            ..SMALL
         },
         Case {
             what: "half the image",
-            len: MIB_64 / 2,
+            len: KIB_64 / 2,
             status: 4,
-            printed: "error 4 TooShort 33554432\n",
-            ..GOOD
+            printed: "error 4 TooShort 32768\n",
+            ..SMALL
         },
         Case {
             what: "one byte more",
-            len: MIB_64 + 1,
+            len: KIB_64 + 1,
             status: 4,
-            printed: "error 4 TooShort 67108865\n",
-            ..GOOD
+            printed: "error 4 TooShort 65537\n",
+            ..SMALL
         },
         Case {
             what: "no byte",
@@ -244,14 +255,14 @@ fn words_that_are_not_canonical(rt: HostRuntime) -> Result<(), Fail> {
 #[test]
 fn hostile_images(rt: HostRuntime) -> Result<(), Fail> {
     for (second, printed) in [
-        ((4, 22_527, 30_000), "error 4 Overlap 0 4\n"),
-        ((7, 2048, u64::MAX), "error 4 RowRange 7\n"),
-        ((7, 40, 39), "error 4 RowRange 7\n"),
-        ((1, 2048, 22_527), "error 4 Overlap 0 1\n"),
+        ((4, 87, 90), "error 4 Overlap 0 4\n"),
+        ((7, 88, u64::MAX), "error 4 RowRange 7\n"),
+        ((7, 60, 59), "error 4 RowRange 7\n"),
+        ((1, 40, 87), "error 4 Overlap 0 1\n"),
     ] {
         let numbers = Numbers {
             second,
-            ..ESP_64_MIB
+            ..ESP_64_KIB
         };
         check(
             &rt,
@@ -260,7 +271,7 @@ fn hostile_images(rt: HostRuntime) -> Result<(), Fail> {
                 numbers,
                 status: 4,
                 printed,
-                ..GOOD
+                ..SMALL
             },
         )?;
     }
@@ -268,7 +279,7 @@ fn hostile_images(rt: HostRuntime) -> Result<(), Fail> {
         (
             Numbers {
                 count: u32::MAX,
-                ..ESP_64_MIB
+                ..ESP_64_KIB
             },
             4,
             "error 4 EntryCount 4294967295 128\n",
@@ -276,7 +287,7 @@ fn hostile_images(rt: HostRuntime) -> Result<(), Fail> {
         (
             Numbers {
                 count: 127,
-                ..ESP_64_MIB
+                ..ESP_64_KIB
             },
             4,
             "error 4 EntryCount 127 128\n",
@@ -284,7 +295,7 @@ fn hostile_images(rt: HostRuntime) -> Result<(), Fail> {
         (
             Numbers {
                 array: 1 << 63,
-                ..ESP_64_MIB
+                ..ESP_64_KIB
             },
             4,
             "error 4 ArrayPlace\n",
@@ -292,26 +303,26 @@ fn hostile_images(rt: HostRuntime) -> Result<(), Fail> {
         (
             Numbers {
                 first: u64::MAX,
-                ..ESP_64_MIB
+                ..ESP_64_KIB
             },
             4,
-            "error 4 Bounds 18446744073709551615 131038\n",
+            "error 4 Bounds 18446744073709551615 94\n",
         ),
         (
             Numbers {
-                last: 131_039,
-                ..ESP_64_MIB
+                last: 95,
+                ..ESP_64_KIB
             },
             4,
-            "error 4 TooShort 67108864\n",
+            "error 4 TooShort 65536\n",
         ),
         (
             Numbers {
                 header_size: 513,
-                ..ESP_64_MIB
+                ..ESP_64_KIB
             },
             0,
-            BACKUP_64_MIB,
+            BACKUP_64_KIB,
         ),
     ] {
         check(
@@ -321,11 +332,11 @@ fn hostile_images(rt: HostRuntime) -> Result<(), Fail> {
                 numbers,
                 status,
                 printed,
-                ..GOOD
+                ..SMALL
             },
         )?;
     }
-    let image = other_table(rt.alloc(), MIB_64, 0x83)?;
+    let image = other_table(rt.alloc(), KIB_64, 0x83)?;
     let printed = "error 4 OtherTable 131\n";
     check_image(
         &rt,
@@ -333,7 +344,7 @@ fn hostile_images(rt: HostRuntime) -> Result<(), Fail> {
             what: "another table",
             status: 4,
             printed,
-            ..GOOD
+            ..SMALL
         },
         image,
     )
