@@ -1,0 +1,27 @@
+-- One naming after another.
+use Rattle.std.proofs.Common.{◌≤◌, ◌+◌, length, drop, sym, ◌∙◌, ap, rules, arith}
+use Rattle.std.proofs.lemmas.List.{at_drop_more, drop_all}
+use Rattle.rp_ident.specs.Naming.{fixed_one, in_turn}
+use Rattle.rp_ident.proofs.NamingLemmas.{in_turn-fault, in_turn-next, in_turn-none}
+use Rattle.rp_ident.proofs.given.give_fixed.Goals as goal
+
+pub loop-naming-preserved : goal.loop-naming-preserved
+loop-naming-preserved c = (
+  omega (arith, c.loop-naming.invariant.0),
+  c.loop-naming.invariant.1
+      ∙ at_drop_more (in_turn fixed_one c.loop-naming.rows) c.args.namings.now c.loop-naming.naming-index _ c.loop-naming-test.true
+      ∙ in_turn-next fixed_one c.loop-naming.rows _ (drop (c.loop-naming.naming-index + 1) c.args.namings.now) c.fix_one.new.rows c.in_ok-fix_one.ensures,
+)
+
+pub returns-in_err-fix_one : goal.returns-in_err-fix_one
+returns-in_err-fix_one c =
+    in_turn-fault fixed_one c.loop-naming.rows _ (drop (c.loop-naming.naming-index + 1) c.args.namings.now) _ c.from_residual.result c.fix_one.new.rows c.in_err-fix_one.ensures (search rules)
+    ∙ sym (at_drop_more (in_turn fixed_one c.loop-naming.rows) c.args.namings.now c.loop-naming.naming-index _ c.loop-naming-test.true)
+    ∙ sym c.loop-naming.invariant.1
+
+pub returns : goal.returns
+returns c =
+    let all : length c.args.namings.now ≤ c.loop-naming.naming-index = omega arith in
+    sym (c.loop-naming.invariant.1
+    ∙ ap (in_turn fixed_one c.loop-naming.rows) (drop_all c.loop-naming.naming-index c.args.namings.now all)
+    ∙ in_turn-none fixed_one c.loop-naming.rows)
