@@ -9,9 +9,15 @@ use rp_disk::FileDisk;
 use rp_io::HostSink;
 use rp_outcome::{MEMORY, WORDS, finish};
 use rp_words::hint_of;
-use std::env;
 use std::io::{self, ErrorKind};
+use std::os::unix::fs::MetadataExt;
 use std::process::ExitCode;
+use std::{env, fs};
+
+// The bits of a file's mode that tell its type, and those of a block device (inode(7)).
+const TYPE_BITS: u32 = 0o170_000;
+
+const BLOCK_DEVICE: u32 = 0o060_000;
 
 fn main(rt: HostRuntime) -> ExitCode {
     let words = match read_words(&rt) {
@@ -42,10 +48,19 @@ fn main(rt: HostRuntime) -> ExitCode {
 
 // Does what the words ask for. Each command that is built reads alone, so the image is opened for that alone.
 fn run_words(rt: &HostRuntime, words: &[String]) -> u8 {
-    let image = words.last().map_or("", |word| word.as_str());
-    let mut disk = FileDisk::open_to_read(rt, image);
+    let mut disk = FileDisk::open_to_read(rt, image_of(rt, words));
     let mut out = HostSink::new(rt);
     run(rt.alloc(), words, &mut disk, &mut out)
+}
+
+// The path of the image: the last word, where it isn't the path of what is neither a file nor a block device. A folder
+// can be opened for reading too, and opening a pipe may wait without end; no path stands for them.
+fn image_of<'a>(rt: &HostRuntime, words: &'a [String]) -> &'a str {
+    let path = words.last().map_or("", |word| word.as_str());
+    match fs::metadata(rt, path) {
+        Ok(found) if found.is_file() || found.mode() & TYPE_BITS == BLOCK_DEVICE => path,
+        _ => "",
+    }
 }
 
 // Says on standard error which word is wrong, and why.
