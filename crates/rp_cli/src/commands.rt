@@ -24,8 +24,8 @@ pub fn run<D: Disk, K: Sink>(alloc: Global, words: &[String], disk: &mut D, out:
         → Refuses (output K.told K.faults out.old) (output K.told K.faults out.new) words_refusal result }
     ensures show { IfOk (line_of (map string_bytes words.now)) (λ line. line.command ≡ Command.Show
         → Shows line.sector line.json
-            (device D.first D.calls D.faults D.strays disk.old) (device D.first D.calls D.faults D.strays disk.new)
-            (output K.told K.faults out.old) (output K.told K.faults out.new) result) }
+        (device D.first D.calls D.faults D.strays disk.old) (device D.first D.calls D.faults D.strays disk.new)
+        (output K.told K.faults out.old) (output K.told K.faults out.new) result) }
 
     // Of every command: no call may change the disk, and a failure has its status.
     ensures only_read { IsOnlyRead
