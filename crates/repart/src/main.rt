@@ -1,18 +1,17 @@
 //! `repart`: shows the partition table of a raw disk image.
 #![tactic(auto)]
 
-mod help;
-
-use help::{HELP, VERSION};
 use rp_cli::run;
 use rp_disk::FileDisk;
 use rp_io::HostSink;
 use rp_outcome::{MEMORY, WORDS, finish};
-use rp_words::hint_of;
+use rp_words::{help_text, hint_of};
 use std::io::{self, ErrorKind};
 use std::os::unix::fs::MetadataExt;
 use std::process::ExitCode;
 use std::{env, fs};
+
+const VERSION: &str = "repart 1.0\n";
 
 // The bits of a file's mode that tell its type, and those of a block device (inode(7)).
 const TYPE_BITS: u32 = 0o170_000;
@@ -32,10 +31,9 @@ fn main(rt: HostRuntime) -> ExitCode {
     };
     let words = words.as_slice();
     if let [word] = words {
-        let mut out = HostSink::new(&rt);
         match word.as_str() {
-            "--help" => return ExitCode::from(finish(&mut out, HELP)),
-            "--version" => return ExitCode::from(finish(&mut out, VERSION)),
+            "--help" => return ExitCode::from(print_help(&rt)),
+            "--version" => return ExitCode::from(finish(&mut HostSink::new(&rt), VERSION)),
             _ => (),
         }
     }
@@ -44,6 +42,13 @@ fn main(rt: HostRuntime) -> ExitCode {
         say_wrong(&rt, words);
     }
     ExitCode::from(status)
+}
+
+fn print_help(rt: &HostRuntime) -> u8 {
+    match help_text(rt.alloc()) {
+        Ok(text) => finish(&mut HostSink::new(rt), text.as_str()),
+        Err(_) => MEMORY,
+    }
 }
 
 // Does what the words ask for. Each command that is built reads alone, so the image is opened for that alone.

@@ -11,11 +11,11 @@ use Rattle.rp_words.specs.declared.fault.WordFault.{WordFault}
 use Rattle.rp_words.specs.declared.fault.WordFault.TheVariants.{Missing, NoImage}
 use Rattle.rp_words.specs.Faults.{first_fault, missing}
 use Rattle.rp_words.specs.Line.{command_of, line_behind, line_by, line_of, line_with, named, options_in, unless}
-use Rattle.rp_words.specs.Table.{commands}
+use Rattle.rp_words.specs.Table.{CommandEntry, commands}
 use Rattle.rp_words.specs.Words.{first_of, is_image, last_of}
 
 -- an entry that isn't built is passed over
-passed : (name : List ℕ) (entry : List ℕ × CommandRow) (rest : Option CommandRow) → entry.1.built ≡ false → option_or (named name entry) rest ≡ rest
+passed : (name : List ℕ) (entry : CommandEntry) (rest : Option CommandRow) → entry.1.built ≡ false → option_or (named name entry) rest ≡ rest
 passed name entry rest e = go (bytes_eq entry.0 name) entry.1.built e where
   go : (called built : Bool) → built ≡ false → option_or (if called && built then Some entry.1 else None) rest ≡ rest
   go true true e = absurd (cc)
@@ -23,7 +23,7 @@ passed name entry rest e = go (bytes_eq entry.0 name) entry.1.built e where
   go false built e = refl
 
 -- every other is one of these
-found : (name : List ℕ) (entry : List ℕ × CommandRow) (rest : Option CommandRow) (row : CommandRow) → rest ≡ None
+found : (name : List ℕ) (entry : CommandEntry) (rest : Option CommandRow) (row : CommandRow) → rest ≡ None
     → option_or (named name entry) rest ≡ Some row → entry.1 ≡ row
 found name entry rest row none e = go (bytes_eq entry.0 name && entry.1.built) e where
   go : (asked : Bool) → option_or (if asked then Some entry.1 else None) rest ≡ Some row → entry.1 ≡ row
@@ -31,11 +31,11 @@ found name entry rest row none e = go (bytes_eq entry.0 name && entry.1.built) e
   go false e = absurd (cc)
 
 -- none of these commands is built
-abbrev AreUnbuilt : List (List ℕ × CommandRow) → Type 0
+abbrev AreUnbuilt : List (CommandEntry) → Type 0
 AreUnbuilt [] = Unit {0}
 AreUnbuilt (entry ∷ entries) = (entry.1.built ≡ false) × AreUnbuilt entries
 
-all_passed : (name : List ℕ) (entries : List (List ℕ × CommandRow)) → AreUnbuilt entries → first_of (named name) entries ≡ None
+all_passed : (name : List ℕ) (entries : List (CommandEntry)) → AreUnbuilt entries → first_of (named name) entries ≡ None
 all_passed name [] unbuilt = refl
 all_passed name (entry ∷ entries) unbuilt = passed name entry (first_of (named name) entries) unbuilt.0 ∙ all_passed name entries unbuilt.1
 
@@ -43,9 +43,9 @@ all_passed name (entry ∷ entries) unbuilt = passed name entry (first_of (named
 only_show : (name : List ℕ) (row : CommandRow) → command_of name ≡ Some row → row.command ≡ Show
 unfolding command_of commands
 only_show name row e =
-    let rest : List (List ℕ × CommandRow) = drop 1 commands in
+    let rest : List (CommandEntry) = drop 1 commands in
     sym (ap (λ (row : CommandRow). row.command)
-    (found name (slice_index_or commands 0 ([], row)) (first_of (named name) rest) row
+    (found name (slice_index_or commands 0 ([], row, [])) (first_of (named name) rest) row
     (all_passed name rest (refl, (refl, (refl, (refl, (refl, (refl, (refl, tt)))))))) e))
 
 -- a line is that of the command of its first word

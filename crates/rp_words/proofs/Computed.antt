@@ -1,5 +1,6 @@
 -- Lines that were worked out by hand come out of the definition.
-use Rattle.std.proofs.Common.{Some, ◌≡◌, refl, ℕ, [], ◌∷◌, Bool, true, false, replicate}
+use Rattle.std.proofs.Common.{Some, None, Option, ◌≡◌, refl, ℕ, List, [], ◌∷◌, Bool, true, false, replicate}
+use Rattle.std.specs.Option.{option_map_or}
 use Rattle.std.specs.Prelude.{codes, Ok, Err}
 use Rattle.rp_types.specs.declared.arch.Arch.TheVariants.{X86_64}
 use Rattle.rp_words.specs.declared.fault.WordFault.TheVariants.{NoCommand, UnknownCommand, NotOption, UnknownOption, OtherCommand, Twice, BadValue, NoImage}
@@ -7,9 +8,13 @@ use Rattle.rp_words.specs.declared.line.Line.{Line}
 use Rattle.rp_words.specs.declared.table.Command.TheVariants.{Show}
 use Rattle.rp_words.specs.declared.table.Opt.TheVariants.{Json, SectorSize}
 use Rattle.rp_words.specs.Faults.{entry_called, first_fault, missing}
+use Rattle.rp_words.specs.Help.{built_text, command_text, offered_text, option_text}
 use Rattle.rp_words.specs.Hint.{entry_of, hint_of}
 use Rattle.rp_words.specs.Line.{command_of, line_of}
-use Rattle.rp_words.specs.Table.{commands, options}
+use Rattle.rp_words.specs.Table.{CommandEntry, commands, options}
+use Rattle.rp_words.specs.Words.{first_of}
+use Rattle.std.specs.Str.{bytes_eq}
+use Rattle.std.specs.Prelude.{if◌then◌else◌}
 use Rattle.rp_types.specs.Guids.{guid_of}
 use Rattle.rp_values.specs.Numbers.{size_of}
 
@@ -81,3 +86,25 @@ hint_at_a_value = refl
 hint_without_an_image : hint_of (codes "show" ∷ []) ≡ Some ([], codes "no image is given, as the last word", [])
 unfolding command_of commands first_fault missing entry_called options
 hint_without_an_image = refl
+
+-- what `--help` prints of a command, and of an option
+command_in_help : List ℕ → List ℕ
+command_in_help name = option_map_or command_text (first_of (λ (entry : CommandEntry). if bytes_eq entry.0 name then Some entry else None) commands) []
+
+help_on_show : command_in_help (codes "show")
+    ≡ codes "repart show prints the table of an image:\n\n    repart show\n        [--json=off|short]\n        [--sector-size=512|4096]\n        IMAGE\n\n"
+unfolding command_in_help commands command_text built_text options
+help_on_show = refl
+
+help_on_a_command_that_is_not_built : command_in_help (codes "apply") ≡ []
+unfolding command_in_help commands command_text
+help_on_a_command_that_is_not_built = refl
+
+help_on_an_option : option_map_or option_text (entry_called (codes "json")) []
+    ≡ codes "    --json=off|short\n        lines of text, or one line of JSON; off if not given\n"
+unfolding commands option_text offered_text options entry_called
+help_on_an_option = refl
+
+help_on_an_option_of_no_built_command : option_map_or option_text (entry_called (codes "number")) [] ≡ []
+unfolding commands option_text options entry_called
+help_on_an_option_of_no_built_command = refl

@@ -1,4 +1,5 @@
 pub mod Faults
+pub mod Help
 pub mod Hint
 pub mod Line
 pub mod Table

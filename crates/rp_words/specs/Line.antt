@@ -11,12 +11,12 @@ use Rattle.rp_words.specs.declared.table.CommandRow.{CommandRow}
 use Rattle.rp_words.specs.declared.fault.WordFault.{WordFault}
 use Rattle.rp_words.specs.declared.fault.WordFault.TheVariants.{NoCommand, UnknownCommand, Missing, NoImage}
 use Rattle.rp_words.specs.Faults.{entry_called, first_fault, missing}
-use Rattle.rp_words.specs.Table.{commands}
+use Rattle.rp_words.specs.Table.{CommandEntry, commands}
 use Rattle.rp_words.specs.Values.{number_in, size_in}
 use Rattle.rp_words.specs.Words.{first_of, is_image, last_of, value_in}
 
 -- a command, if it is called this and is built
-abbrev pub named : List ℕ → List ℕ × CommandRow → Option CommandRow
+abbrev pub named : List ℕ → CommandEntry → Option CommandRow
 named name entry = if bytes_eq entry.0 name && entry.1.built then Some entry.1 else None
 
 -- the command of a name

@@ -88,7 +88,7 @@ pub(crate) fn fault_of(command: Command, before: &[String], word: &str) -> Optio
     let Some((name, value)) = option_in(word) else {
         return Some(WordFault::NotOption { place });
     };
-    let Some((_, _, _, row)) = option_called(name) else {
+    let Some((_, _, _, row, _)) = option_called(name) else {
         return Some(WordFault::UnknownOption { place });
     };
     if row.use_by(command) == Use::Never {
@@ -144,7 +144,7 @@ fn wanting_among(command: Command, words: &[String], entries: &[OptionEntry]) ->
 fn wanting(command: Command, words: &[String], entry: &OptionEntry) -> Option<Opt>
     ensures { result ≡ wanting_entry command (map string_bytes words.now) (option_entry entry.now) }
 {
-    let (name, _, _, row) = entry;
+    let (name, _, _, row, _) = entry;
     if row.use_by(command) == Use::Must && value_in(name, words).is_none() {
         Some(row.option)
     } else {

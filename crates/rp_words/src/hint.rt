@@ -88,7 +88,7 @@ fn name(option: Opt) -> &'static str
     ensures { result.now ≡ name_text option }
 {
     match entry_of(option) {
-        Some((name, _, _, _)) => name,
+        Some((name, _, _, _, _)) => name,
         None => "",
     }
 }
@@ -97,7 +97,7 @@ fn form(option: Opt) -> &'static str
     ensures { result.now ≡ form_text option }
 {
     match entry_of(option) {
-        Some((_, _, form, _)) => form,
+        Some((_, _, form, _, _)) => form,
         None => "",
     }
 }
@@ -126,7 +126,7 @@ fn own_among(option: Opt, entries: &[OptionEntry]) -> Option<OptionEntry>
 fn own(option: Opt, entry: &OptionEntry) -> Option<OptionEntry>
     ensures { option_map option_entry result ≡ own_entry option (option_entry entry.now) }
 {
-    let (_, _, _, row) = entry;
+    let (_, _, _, row, _) = entry;
     if number(row.option) == number(option) {
         Some(*entry)
     } else {

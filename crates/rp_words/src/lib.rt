@@ -2,6 +2,7 @@
 #![tactic(auto)]
 
 mod fault;
+mod help;
 mod hint;
 mod line;
 mod table;
@@ -9,6 +10,7 @@ mod values;
 mod words;
 
 pub use fault::WordFault;
+pub use help::help_text;
 pub use hint::{Hint, hint_of};
 pub use line::{Line, read_line};
 pub use table::{Command, Opt};

@@ -9,7 +9,7 @@ ghost use Rattle.rp_words.specs.Table.{command_entry};
 ghost use Rattle.rp_words.specs.Words.{first_of, is_image as is_image_word, last_of};
 
 use crate::fault::{WordFault, first_fault, missing, option_called};
-use crate::table::{Command, CommandRow, commands};
+use crate::table::{Command, CommandEntry, CommandRow, commands};
 use crate::values::{read_number, read_size};
 use crate::words::{is_image, value_in};
 use rp_base::Guid;
@@ -143,7 +143,7 @@ fn default_of(name: &str) -> &'static str
     ensures { result.now ≡ option_map_or (λ entry. entry.1) (entry_called name.now) [] }
 {
     match option_called(name) {
-        Some((_, default, _, _)) => default,
+        Some((_, default, _, _, _)) => default,
         None => "",
     }
 }
@@ -158,7 +158,7 @@ fn command_of(name: &str) -> Option<CommandRow>
 
 // The command of a name among these.
 #[tactic(auto, using(crate::proofs::First::passed, crate::proofs::First::found_here, crate::proofs::First::found_none))]
-fn named_among(name: &str, entries: &[(&'static str, CommandRow)]) -> Option<CommandRow>
+fn named_among(name: &str, entries: &[CommandEntry]) -> Option<CommandRow>
     ensures { result ≡ first_of (λ entry. named_entry name.now (command_entry entry)) entries.now }
 {
     for entry in entries {
@@ -170,10 +170,10 @@ fn named_among(name: &str, entries: &[(&'static str, CommandRow)]) -> Option<Com
 }
 
 // A command, if it is called this and is built.
-fn named(name: &str, entry: &(&'static str, CommandRow)) -> Option<CommandRow>
+fn named(name: &str, entry: &CommandEntry) -> Option<CommandRow>
     ensures { result ≡ named_entry name.now (command_entry entry.now) }
 {
-    let (own, row) = entry;
+    let (own, row, _) = entry;
     if *own == name && row.built {
         Some(*row)
     } else {

@@ -60,20 +60,37 @@ pub(crate) struct OptionRow {
     pub(crate) compare: Use,
 }
 
-/// An option by name, with the value that stands where it isn't given, and how its values are written, for people.
-pub(crate) type OptionEntry = (&'static str, &'static str, &'static str, OptionRow);
+/// A command by name, with what it does, for people.
+pub(crate) type CommandEntry = (&'static str, CommandRow, &'static str);
 
-/// By name.
+/// An option by name, with the value that stands where it isn't given, and, for people, how its values are written and
+/// what they mean.
+pub(crate) type OptionEntry = (
+    &'static str,
+    &'static str,
+    &'static str,
+    OptionRow,
+    &'static str,
+);
+
 #[rattlefmt::skip]
-pub(crate) static COMMANDS: [(&str, CommandRow); 8] = [
-    ("show", CommandRow { command: Command::Show, built: true, image: true }),
-    ("plan", CommandRow { command: Command::Plan, built: false, image: true }),
-    ("apply", CommandRow { command: Command::Apply, built: false, image: true }),
-    ("check", CommandRow { command: Command::Check, built: false, image: true }),
-    ("dissect", CommandRow { command: Command::Dissect, built: false, image: true }),
-    ("policy", CommandRow { command: Command::Policy, built: false, image: false }),
-    ("make", CommandRow { command: Command::Make, built: false, image: true }),
-    ("compare", CommandRow { command: Command::Compare, built: false, image: false }),
+pub(crate) static COMMANDS: [CommandEntry; 8] = [
+    ("show", CommandRow { command: Command::Show, built: true, image: true },
+        "prints the table of an image"),
+    ("plan", CommandRow { command: Command::Plan, built: false, image: true },
+        "prints what is to become of the table"),
+    ("apply", CommandRow { command: Command::Apply, built: false, image: true },
+        "changes the image as plan prints it"),
+    ("check", CommandRow { command: Command::Check, built: false, image: true },
+        "tells whether the image is as apply leaves it"),
+    ("dissect", CommandRow { command: Command::Dissect, built: false, image: true },
+        "prints the partitions that are found by their types"),
+    ("policy", CommandRow { command: Command::Policy, built: false, image: false },
+        "prints an image policy in its shortest form"),
+    ("make", CommandRow { command: Command::Make, built: false, image: true },
+        "makes a large image from a number, and checks it"),
+    ("compare", CommandRow { command: Command::Compare, built: false, image: false },
+        "tells whether a policy allows what another denies"),
 ];
 
 const NEVER: Use = Use::Never;
@@ -85,31 +102,42 @@ const MUST: Use = Use::Must;
 #[rattlefmt::skip]
 pub(crate) static OPTIONS: [OptionEntry; 11] = [
     ("definitions", "", "FOLDER[:FOLDER...]", OptionRow { option: Opt::Definitions,
-        show: NEVER, plan: MUST, apply: MUST, check: MUST, dissect: NEVER, policy: NEVER, make: NEVER, compare: NEVER }),
+        show: NEVER, plan: MUST, apply: MUST, check: MUST, dissect: NEVER, policy: NEVER, make: NEVER, compare: NEVER },
+        "the folders of definition files, see repart.d(5)"),
     ("seed", "", "UUID", OptionRow { option: Opt::Seed,
-        show: NEVER, plan: MUST, apply: MUST, check: MUST, dissect: NEVER, policy: NEVER, make: NEVER, compare: NEVER }),
+        show: NEVER, plan: MUST, apply: MUST, check: MUST, dissect: NEVER, policy: NEVER, make: NEVER, compare: NEVER },
+        "what identifiers are made from"),
     ("arch", "x86-64", "x86-64|arm64", OptionRow { option: Opt::Arch,
-        show: NEVER, plan: MAY, apply: MAY, check: MAY, dissect: MAY, policy: NEVER, make: NEVER, compare: NEVER }),
+        show: NEVER, plan: MAY, apply: MAY, check: MAY, dissect: MAY, policy: NEVER, make: NEVER, compare: NEVER },
+        "the architecture that root, usr and %a stand for"),
     ("empty", "refuse", "refuse|allow|require", OptionRow { option: Opt::Empty,
-        show: NEVER, plan: MAY, apply: MAY, check: NEVER, dissect: NEVER, policy: NEVER, make: NEVER, compare: NEVER }),
+        show: NEVER, plan: MAY, apply: MAY, check: NEVER, dissect: NEVER, policy: NEVER, make: NEVER, compare: NEVER },
+        "whether the image may, or has to, show no table"),
     ("size", "0", "BYTES[B|K|M|G|T]", OptionRow { option: Opt::Size,
-        show: NEVER, plan: MAY, apply: MAY, check: NEVER, dissect: NEVER, policy: NEVER, make: NEVER, compare: NEVER }),
+        show: NEVER, plan: MAY, apply: MAY, check: NEVER, dissect: NEVER, policy: NEVER, make: NEVER, compare: NEVER },
+        "the bytes that the image grows to, if it has fewer"),
     ("json", "off", "off|short", OptionRow { option: Opt::Json,
-        show: MAY, plan: MAY, apply: MAY, check: NEVER, dissect: MAY, policy: NEVER, make: NEVER, compare: NEVER }),
+        show: MAY, plan: MAY, apply: MAY, check: NEVER, dissect: MAY, policy: NEVER, make: NEVER, compare: NEVER },
+        "lines of text, or one line of JSON"),
     ("sector-size", "512", "512|4096", OptionRow { option: Opt::SectorSize,
-        show: MAY, plan: MAY, apply: MAY, check: MAY, dissect: MAY, policy: NEVER, make: NEVER, compare: NEVER }),
+        show: MAY, plan: MAY, apply: MAY, check: MAY, dissect: MAY, policy: NEVER, make: NEVER, compare: NEVER },
+        "the bytes of a sector of the disk"),
     ("factory-reset", "off", "off|on", OptionRow { option: Opt::FactoryReset,
-        show: NEVER, plan: MAY, apply: MAY, check: NEVER, dissect: NEVER, policy: NEVER, make: NEVER, compare: NEVER }),
+        show: NEVER, plan: MAY, apply: MAY, check: NEVER, dissect: NEVER, policy: NEVER, make: NEVER, compare: NEVER },
+        "whether partitions with FactoryReset=yes are made anew"),
     ("policy", "*", "POLICY", OptionRow { option: Opt::Policy,
-        show: NEVER, plan: NEVER, apply: NEVER, check: NEVER, dissect: MAY, policy: MUST, make: NEVER, compare: MUST }),
+        show: NEVER, plan: NEVER, apply: NEVER, check: NEVER, dissect: MAY, policy: MUST, make: NEVER, compare: MUST },
+        "an image policy, see systemd.image-policy(7)"),
     ("against", "", "POLICY", OptionRow { option: Opt::Against,
-        show: NEVER, plan: NEVER, apply: NEVER, check: NEVER, dissect: NEVER, policy: NEVER, make: NEVER, compare: MUST }),
+        show: NEVER, plan: NEVER, apply: NEVER, check: NEVER, dissect: NEVER, policy: NEVER, make: NEVER, compare: MUST },
+        "the policy that it is compared with"),
     ("number", "", "1...100", OptionRow { option: Opt::Number,
-        show: NEVER, plan: NEVER, apply: NEVER, check: NEVER, dissect: NEVER, policy: NEVER, make: MUST, compare: NEVER }),
+        show: NEVER, plan: NEVER, apply: NEVER, check: NEVER, dissect: NEVER, policy: NEVER, make: MUST, compare: NEVER },
+        "the number of partitions"),
 ];
 
 /// The commands by name, those that aren't built yet too.
-pub(crate) fn commands() -> &'static [(&'static str, CommandRow)]
+pub(crate) fn commands() -> &'static [CommandEntry]
     ensures { map command_entry result.now ≡ commands }
 {
     &COMMANDS
