@@ -8,3 +8,7 @@ pub mod TreeLemmas
 pub mod Taking
 pub mod Filling
 pub mod Sourced
+pub mod OrderLemmas
+pub mod Put
+pub mod SuperblockLemmas
+mod Computed

@@ -5,3 +5,4 @@ pub mod Room
 pub mod Filled
 pub mod Builder
 pub mod Lending
+pub mod Superblock

@@ -2,14 +2,18 @@
 #![tactic(auto)]
 
 mod builder;
+pub mod law;
 mod out;
 mod shape;
 mod sources;
+mod superblock;
 #[cfg(test)]
 mod tests;
 mod tree;
 
 pub use builder::Builder;
 pub use out::{Nowhere, TreeOut};
-pub use shape::{hash_blocks, levels};
+pub use shape::{BLOCK, DIGEST, FAN, blocks_over, hash_blocks, levels, runs};
 pub use sources::root_of;
+pub use superblock::{SALT, Superblock, read_superblock, write_superblock};
+pub use tree::digest_of;

@@ -4,13 +4,13 @@ ghost use Rattle.rp_verity.specs.Tree.{runs};
 ghost use Rattle.rp_verity.specs.Order as order;
 
 /// Bytes of a data block and of a hash block.
-pub(crate) const BLOCK: usize = 4096;
+pub const BLOCK: usize = 4096;
 
 /// Bytes of a digest.
-pub(crate) const DIGEST: usize = 32;
+pub const DIGEST: usize = 32;
 
 /// Digests in a hash block.
-pub(crate) const FAN: u64 = 128;
+pub const FAN: u64 = 128;
 
 /// How many levels of hash blocks stand over so many data blocks: none over one. There are 1 to 2^32 data blocks.
 pub fn levels(blocks: u64) -> u32
@@ -41,8 +41,8 @@ pub fn hash_blocks(blocks: u64) -> u64
     1 + blocks_over(levels(blocks), blocks)
 }
 
-// The blocks of so many levels over so many digests.
-pub(crate) fn blocks_over(levels: u32, digests: u64) -> u64
+/// The blocks of so many levels over so many digests.
+pub fn blocks_over(levels: u32, digests: u64) -> u64
     requires levels { levels ≤ 5 }
     requires few { digests ≤ 2 ^ 32 }
     ensures blocks { result ≡ order.blocks_over levels digests }
@@ -55,8 +55,8 @@ pub(crate) fn blocks_over(levels: u32, digests: u64) -> u64
     blocks_over(levels - 1, lowest) + lowest
 }
 
-// How many runs of 128 so many digests make.
-pub(crate) fn runs(digests: u64) -> u64
+/// How many runs of 128 so many digests make.
+pub fn runs(digests: u64) -> u64
     requires { digests ≤ 2 ^ 32 }
     ensures { result ≡ runs digests }
 {
