@@ -1,0 +1,5 @@
+mod Fit
+mod Free
+pub mod Public
+mod Scan
+mod Written
