@@ -29,21 +29,21 @@ written : take 120 (superblock uuid 3 salt) ≡ theirs
 unfolding superblock uuid salt theirs
 written = refl
 
--- rows of so many units
-abbrev row : ℕ → Row
-row size =
+-- a row of so many units
+abbrev of_units : ℕ → Row
+of_units size =
     record { slot = 0; kind = record { 0 = [] }; id = record { 0 = [] }; start = 0; size = size; attrs = 0; name = [] }
 
 -- it is right for rows in which three blocks and their tree fit
-right : superblock_in (theirs ++ replicate 3976 0) (row 24) (row 16) ≡ Some (record { blocks = 3; salt_size = 32 })
+right : superblock_in (theirs ++ replicate 3976 0) (of_units 24) (of_units 16) ≡ Some (record { blocks = 3; salt_size = 32 })
 unfolding superblock_in is_headed blocks_in salt_size_in fits hash_blocks levels level_blocks theirs
 right = refl
 
 -- and for no smaller ones
-short_row : superblock_in (theirs ++ replicate 3976 0) (row 23) (row 16) ≡ None
+short_row : superblock_in (theirs ++ replicate 3976 0) (of_units 23) (of_units 16) ≡ None
 unfolding superblock_in is_headed blocks_in salt_size_in fits hash_blocks levels level_blocks theirs
 short_row = refl
 
-short_tree : superblock_in (theirs ++ replicate 3976 0) (row 24) (row 15) ≡ None
+short_tree : superblock_in (theirs ++ replicate 3976 0) (of_units 24) (of_units 15) ≡ None
 unfolding superblock_in is_headed blocks_in salt_size_in fits hash_blocks levels level_blocks theirs
 short_tree = refl
