@@ -1,1 +1,4 @@
 pub mod Naming
+pub mod Facts
+pub mod Kept
+pub mod Tried

@@ -3,9 +3,12 @@
 
 mod fault;
 mod given;
+pub mod law;
 mod naming;
 #[cfg(test)]
 mod tests;
+mod tried;
+mod used;
 
 pub use fault::IdentFault;
 pub use naming::{Naming, name_rows};

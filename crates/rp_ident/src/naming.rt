@@ -3,6 +3,7 @@ ghost use Rattle.rp_ident.specs.Naming.{disk_id, labeled, leaves, named, rows_na
 
 use crate::IdentFault;
 use crate::given::{give_derived, give_fixed};
+use crate::used::used_of;
 use rp_base::{Guid, Row, Table};
 use rp_hmac::derive;
 
@@ -45,8 +46,9 @@ fn name_all(rows: &mut [Row], namings: &[Naming], seed: Guid) -> Result<(), Iden
     ensures { leaves result rows.new ≡ rows_named rows.old namings.now seed }
 {
     label(rows, namings);
-    give_fixed(rows, namings)?;
-    give_derived(rows, namings, seed)
+    let mut used = used_of(rows);
+    give_fixed(rows, &mut used, namings)?;
+    give_derived(rows, &mut used, namings, seed)
 }
 
 // Gives each named row without a name its label.

@@ -7,8 +7,8 @@ pub returns-in_err-give_fixed : goal.returns-in_err-give_fixed
 unfolding rows_named
 returns-in_err-give_fixed c =
     let failed : c.from_residual.result ≡ Err _ = search rules in
-    rw (← c.label.ensures, ← c.in_err-give_fixed.ensures, failed) refl
+    rw (← c.label.ensures, ← c.in_err-give_fixed.ensures.rows, failed) refl
 
 pub returns : goal.returns
 unfolding rows_named
-returns c = rw (← c.label.ensures, ← c.in_ok-give_fixed.ensures) c.give_derived.ensures
+returns c = rw (← c.label.ensures, ← c.in_ok-give_fixed.ensures.rows) c.give_derived.ensures
