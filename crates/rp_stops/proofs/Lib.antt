@@ -1,0 +1,25 @@
+pub mod Whole
+pub mod Cuts
+pub mod Stages
+pub mod Cells
+pub mod Copying
+pub mod Showing
+pub mod Ranges
+pub mod Places
+pub mod Faults
+pub mod Standing
+pub mod Given
+pub mod Writes
+pub mod Known
+pub mod Bytes
+pub mod Growing
+pub mod Outcomes
+pub mod Surviving
+pub mod Missing
+pub mod Carried
+pub mod Finishing
+pub mod Final
+pub mod Fronts
+pub mod OneFinal
+pub mod Wrong
+mod Computed

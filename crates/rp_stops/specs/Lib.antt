@@ -1,0 +1,9 @@
+pub mod Rows
+pub mod Order
+pub mod Writers
+pub mod Sectors
+pub mod Honest
+pub mod Safe
+pub mod Plans
+pub mod Final
+pub mod Wrong
