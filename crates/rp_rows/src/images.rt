@@ -41,8 +41,9 @@ pub struct Numbers {
     pub stop: u64,
     /// A second partition's slot and LBAs; none where the slot is 0.
     pub second: (usize, u64, u64),
-    /// The number of entries that both headers tell.
+    /// The number of entries that the primary header tells, and that the backup's does.
     pub count: u32,
+    pub backup_count: u32,
     /// The primary header's size and the LBA of its array, as it tells them.
     pub header_size: u16,
     pub array: u64,
@@ -84,6 +85,7 @@ pub fn esp_image(alloc: Global, numbers: Numbers) -> Result<Vec<u8>, Fail> {
     push_array(&mut image, numbers, array.as_slice())?;
     let backup = Numbers {
         header_size: 92,
+        count: numbers.backup_count,
         ..numbers
     };
     push_header(

@@ -21,6 +21,7 @@ const ESP_64_MIB: Numbers = Numbers {
     stop: 22_527,
     second: (0, 0, 0),
     count: 128,
+    backup_count: 128,
     header_size: 92,
     array: 2,
 };
@@ -56,6 +57,7 @@ const SWAP_OF_256: Numbers = Numbers {
     start: 72,
     stop: 79,
     count: 256,
+    backup_count: 256,
     ..ESP_64_KIB
 };
 
@@ -279,6 +281,7 @@ fn hostile_images(rt: HostRuntime) -> Result<(), Fail> {
         (
             Numbers {
                 count: u32::MAX,
+                backup_count: u32::MAX,
                 ..ESP_64_KIB
             },
             4,
@@ -287,10 +290,20 @@ fn hostile_images(rt: HostRuntime) -> Result<(), Fail> {
         (
             Numbers {
                 count: 127,
+                backup_count: 127,
                 ..ESP_64_KIB
             },
             4,
             "error 4 EntryCount 127 128\n",
+        ),
+        // The primary's array is broken where it has 132 entries, which bytes of a partition could mend.
+        (
+            Numbers {
+                count: 132,
+                ..ESP_64_KIB
+            },
+            4,
+            "error 4 EntryCount 132 128\n",
         ),
         (
             Numbers {
