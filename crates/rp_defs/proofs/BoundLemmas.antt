@@ -1,5 +1,6 @@
 -- Values of keys are in their bounds, and so is what a definition asks for.
-use Rattle.std.proofs.Common.{◌≡◌, ◌≢◌, ℕ, ◌-◌, ◌*◌, ◌^◌, ◌<◌, ◌≤◌, List, Bool, true, false, cond, length, take, ◌||◌, Option, Some, None, Ok, Err, inl, inr, refl, sym, ap, subst, arith}
+use Rattle.std.proofs.Common.{◌≡◌, ◌≢◌, ℕ, ◌-◌, ◌*◌, ◌^◌, ◌<◌, ◌≤◌, List, Bool, true, false, cond, length, take, ◌||◌, Option, Some, None}
+use Rattle.std.proofs.Common.{Ok, Err, inl, inr, refl, sym, ap, subst, arith}
 use Rattle.std.specs.Prelude.{All, IfSome, codes, nat_le, nat_lt, min, replicate, unwrap_or, slice_index, slice_index_or}
 use Rattle.std.specs.Option.{option_and_then, option_map, option_map_or}
 use Rattle.std.proofs.lemmas.Bool.{cases_lt, leb-true, ltb-false}
@@ -18,8 +19,10 @@ use Rattle.rp_defs.specs.declared.value.Value.{Value}
 use Rattle.rp_defs.specs.declared.value.Value.TheVariants as value
 use Rattle.rp_defs.specs.Keys.{key_named}
 use Rattle.rp_defs.specs.Faults.{no_memory, whole_fault, IsFault}
-use Rattle.rp_defs.specs.Records.{draft_from, half_said, within_limits, want_of, has_no_size, max_of, min_of}
-use Rattle.rp_defs.specs.Value.{id_of, label_of, size_of as size_of_value, weight_of as weight_of_value, value_in, label_in, size_in, weight_in, IsBounded}
+use Rattle.rp_defs.specs.Drafts.{draft_from, half_said, within_limits, want_of}
+use Rattle.rp_defs.specs.Limits.{has_no_size, max_of, min_of}
+use Rattle.rp_defs.specs.Value.{id_of, label_of, size_of as size_of_value, weight_of as weight_of_value, value_in, label_in, size_in}
+use Rattle.rp_defs.specs.Value.{weight_in, IsBounded}
 use Rattle.rp_defs.specs.WellFormed.{IsSizedHalf, IsSoundDraft}
 
 -- a number that is set is at most so much
@@ -109,7 +112,8 @@ weight_in_bound values name bounded = weight_bounded (value_in values name) (val
 size_in_bound : (values : List (Option Value)) (name : List ℕ) → AreBounded values → IsUpTo (2 ^ 60) (size_in values name)
 size_in_bound values name bounded = size_bounded (value_in values name) (value_bounded values (key_named name) bounded)
 
-pub label_in_begins : (values : List (Option Value)) (name : List ℕ) → AreBounded values → IfSome (label_in values name) (λ units. slice_index units 0 ≢ 0)
+pub label_in_begins : (values : List (Option Value)) (name : List ℕ) → AreBounded values
+    → IfSome (label_in values name) (λ units. slice_index units 0 ≢ 0)
 label_in_begins values name bounded = label_bounded (value_in values name) (value_bounded values (key_named name) bounded)
 
 -- ---- what is asked for
@@ -145,7 +149,8 @@ in_bounds want sized min max weight pad_min pad_max pad_weight =
     }
 
 -- half of a pair has no weight
-half_in_bounds : (half : Half) (values : List (Option Value)) → AreBounded values → has_no_size (want_of half values) ≡ false → want_of half values ≡ want_of Data values → IsWant (want_of half values)
+half_in_bounds : (half : Half) (values : List (Option Value)) → AreBounded values → has_no_size (want_of half values) ≡ false
+    → want_of half values ≡ want_of Data values → IsWant (want_of half values)
 unfolding want_of
 half_in_bounds half values bounded sized same =
     let sized' = subst (λ (want : Want). has_no_size want ≡ false) same sized in
@@ -156,7 +161,8 @@ half_in_bounds half values bounded sized same =
     (max_of-le (size_in values (codes "PaddingMaxBytes")) (size_in_bound values (codes "PaddingMaxBytes") bounded))
     (weight_or (weight_in values (codes "PaddingWeight")) 0 (weight_in_bound values (codes "PaddingWeight") bounded) (omega arith)))
 
-pub want_of-IsWant : (half : Half) (values : List (Option Value)) → AreBounded values → has_no_size (want_of half values) ≡ false → IsWant (want_of half values)
+pub want_of-IsWant : (half : Half) (values : List (Option Value)) → AreBounded values → has_no_size (want_of half values) ≡ false
+    → IsWant (want_of half values)
 unfolding want_of
 want_of-IsWant Off values bounded sized =
     let min_set = size_in values (codes "SizeMinBytes") in
@@ -171,7 +177,8 @@ want_of-IsWant Data values bounded sized = half_in_bounds Data values bounded si
 want_of-IsWant Hash values bounded sized = half_in_bounds Hash values bounded sized refl
 
 -- a draft that is no half has a grain at least, and a half has no weight
-pub want_of-IsSizedHalf : (half : Half) (values : List (Option Value)) (definition : Definition) → definition.want ≡ want_of half values → IsSizedHalf half definition
+pub want_of-IsSizedHalf : (half : Half) (values : List (Option Value)) (definition : Definition) → definition.want ≡ want_of half values
+    → IsSizedHalf half definition
 unfolding want_of
 want_of-IsSizedHalf Off values definition is = let least = ap (λ (want : Want). want.min) is in omega (arith, least)
 want_of-IsSizedHalf Data values definition is = ap (λ (want : Want). want.weight) is
@@ -194,7 +201,8 @@ pub limits_kept : (file : List ℕ) (kind : Guid) (values : List (Option Value))
 unfolding draft_from
 limits_kept file kind values sized = rw sized refl
 
-pub limits_broken : (file : List ℕ) (kind : Guid) (values : List (Option Value)) (result : DefFault) → has_no_size (want_of (half_said values) values) ≡ true
+pub limits_broken : (file : List ℕ) (kind : Guid) (values : List (Option Value)) (result : DefFault)
+    → has_no_size (want_of (half_said values) values) ≡ true
     → IsFault (whole_fault file Limits) result → Gives no_memory (within_limits file (draft_from file kind values)) (Err result)
 unfolding draft_from
 limits_broken file kind values result sized (inl is) = inl (rw sized (ap Err is))

@@ -1,5 +1,6 @@
 -- A setting that counts has a value, and there is a place for each key.
-use Rattle.std.proofs.Common.{◌≡◌, ◌≢◌, ℕ, List, [], ◌∷◌, Bool, true, false, cond, eqb, get_or, length, Option, Some, None, Result, Ok, Err, inl, inr, refl, subst}
+use Rattle.std.proofs.Common.{◌≡◌, ◌≢◌, ℕ, List, [], ◌∷◌, Bool, true, false, cond, eqb, get_or, length, Option, Some, None, Result, Ok, Err}
+use Rattle.std.proofs.Common.{inl, inr, refl, subst}
 use Rattle.std.specs.Prelude.{All, find, reverse}
 use Rattle.std.specs.Option.{option_and_then}
 use Rattle.std.specs.Str.{bytes_eq}
@@ -13,7 +14,8 @@ use Rattle.rp_defs.specs.declared.setting.Setting.{Setting}
 use Rattle.rp_defs.specs.Answers.{after}
 use Rattle.rp_defs.specs.Faults.{no_memory}
 use Rattle.rp_defs.specs.Keys.{key_names}
-use Rattle.rp_defs.specs.Settings.{IsSet, Keyed, all_ignored, all_keyed, counting, counting_of, read_pieces, unless_empty}
+use Rattle.rp_defs.specs.Kept.{IsSet, Keyed, all_keyed, counting, counting_of, unless_empty}
+use Rattle.rp_defs.specs.Settings.{all_ignored, read_pieces}
 
 value_there : (value : List ℕ) → eqb (length value) 0 ≡ false → value ≢ []
 value_there [] is = absurd (cc)
@@ -46,14 +48,17 @@ Read = List (Piece × List Section)
 
 -- the same of the settings that pieces give
 pub settings_set : (pieces : List Piece) (settings : Settings)
-    → Gives no_memory (after (read_pieces pieces) (λ read. Ok (record { counting = counting_of (all_keyed read); ignored = all_ignored read }))) (Ok settings)
+    → Gives no_memory
+    (after (read_pieces pieces) (λ read. Ok (record { counting = counting_of (all_keyed read); ignored = all_ignored read })))
+    (Ok settings)
     → All IsSet settings.counting
 settings_set pieces settings gives = by_read (read_pieces pieces) gives where
   by_counting : (all : List Keyed) → counting_of all ≡ settings.counting → All IsSet settings.counting
   by_counting all same = subst (λ (counting : List (Option Setting)). All IsSet counting) same (counting_of_set all)
 
   by_read : (told : Result Read DefFault)
-      → Gives no_memory (after told (λ read. Ok (record { counting = counting_of (all_keyed read); ignored = all_ignored read }))) (Ok settings)
+      → Gives no_memory (after told (λ read. Ok (record { counting = counting_of (all_keyed read); ignored = all_ignored read })))
+      (Ok settings)
       → All IsSet settings.counting
   by_read (Ok read) (inl is) = by_counting (all_keyed read) (cc)
   by_read (Ok read) (inr is) = absurd (cc)

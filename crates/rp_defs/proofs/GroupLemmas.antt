@@ -1,5 +1,6 @@
 -- A group of pieces is a main file with the drop-ins behind it.
-use Rattle.std.proofs.Common.{◌≡◌, ℕ, suc, ◌+◌, ◌-◌, ◌<◌, ◌≤◌, Bool, true, false, cond, List, [], ◌∷◌, length, get_or, take, drop, refl, ap, sym, ◌∙◌, arith, eqb, length-drop}
+use Rattle.std.proofs.Common.{◌≡◌, ℕ, suc, ◌+◌, ◌-◌, ◌<◌, ◌≤◌, Bool, true, false, cond, List, [], ◌∷◌, length, get_or, take, drop, refl, ap}
+use Rattle.std.proofs.Common.{sym, ◌∙◌, arith, eqb, length-drop}
 use Rattle.std.specs.Prelude.{not}
 use Rattle.std.specs.List.{prefix_len}
 use Rattle.std.proofs.lemmas.List.{drop_more, drop-drop, get_or-drop}
@@ -15,7 +16,8 @@ no_piece = record { file = []; part = []; bytes = [] }
 abbrev behind : Piece → List Piece → ℕ → List (List Piece)
 behind piece pieces n = (piece ∷ take n pieces) ∷ groups_of (drop n pieces)
 
-groups_step : (piece next : Piece) (pieces : List Piece) (n : ℕ) (main : Bool) → eqb (length next.part) 0 ≡ main → groups_of (next ∷ pieces) ≡ behind next pieces n
+groups_step : (piece next : Piece) (pieces : List Piece) (n : ℕ) (main : Bool) → eqb (length next.part) 0 ≡ main
+    → groups_of (next ∷ pieces) ≡ behind next pieces n
     → before_groups piece (groups_of (next ∷ pieces)) ≡ behind piece (next ∷ pieces) (cond (not main) (1 + n) 0)
 groups_step piece next pieces n true is rest =
     let groups : List (List Piece) = groups_of (drop n pieces) in
@@ -32,10 +34,12 @@ groups_step piece next pieces n false is rest =
 groups_first : (piece : Piece) (pieces : List Piece) → groups_of (piece ∷ pieces) ≡ behind piece pieces (prefix_len is_part pieces)
 unfolding groups_of
 groups_first piece [] = refl
-groups_first piece (next ∷ pieces) = groups_step piece next pieces (prefix_len is_part pieces) (eqb (length next.part) 0) refl (groups_first next pieces)
+groups_first piece (next ∷ pieces) =
+    groups_step piece next pieces (prefix_len is_part pieces) (eqb (length next.part) 0) refl (groups_first next pieces)
 
 -- the group at a place that ends before the next main file
-pub groups_at : (pieces : List Piece) (start end : ℕ) → start < length pieces → end ≡ start + 1 + prefix_len is_part (drop (start + 1) pieces)
+pub groups_at : (pieces : List Piece) (start end : ℕ) → start < length pieces
+    → end ≡ start + 1 + prefix_len is_part (drop (start + 1) pieces)
     → groups_of (drop start pieces) ≡ take (end - start) (drop start pieces) ∷ groups_of (drop end pieces)
 groups_at pieces start end within is =
     let rest : List Piece = drop (start + 1) pieces in
@@ -47,11 +51,13 @@ groups_at pieces start end within is =
     ap groups_of split ∙ groups_first piece rest
     ∙ ap (λ (m : ℕ). take m (piece ∷ rest) ∷ groups_of (drop n rest)) size
     ∙ ap (λ (ps : List Piece). take (end - start) ps ∷ groups_of (drop n rest)) (sym split)
-    ∙ ap (λ (ps : List Piece). take (end - start) (drop start pieces) ∷ groups_of ps) (drop-drop n (start + 1) pieces ∙ ap (λ m. drop m pieces) ends)
+    ∙ ap (λ (ps : List Piece). take (end - start) (drop start pieces) ∷ groups_of ps)
+    (drop-drop n (start + 1) pieces ∙ ap (λ m. drop m pieces) ends)
 
 -- a loop over the drop-ins behind a piece finds the end of its group
 pub end_is : (pieces : List Piece) (start place : ℕ) → start + 1 ≤ place → place ≤ length pieces
-    → ((k : ℕ) (d : Piece) → start < k → k < place → is_part (get_or pieces k d) ≡ true) → (place < length pieces → (d : Piece) → is_part (get_or pieces place d) ≡ false)
+    → ((k : ℕ) (d : Piece) → start < k → k < place → is_part (get_or pieces k d) ≡ true)
+    → (place < length pieces → (d : Piece) → is_part (get_or pieces place d) ≡ false)
     → place ≡ start + 1 + prefix_len is_part (drop (start + 1) pieces)
 end_is pieces start place after within parts main =
     let rest : List Piece = drop (start + 1) pieces in
@@ -61,5 +67,6 @@ end_is pieces start place after within parts main =
     let is : prefix_len is_part rest ≡ n =
     prefix_len_is is_part rest n no_piece (omega (arith, size))
     (λ k below. ap is_part (get_or-drop (start + 1) pieces k no_piece) ∙ parts (start + 1 + k) no_piece (omega arith) (omega arith))
-    (λ below. ap is_part (get_or-drop (start + 1) pieces n no_piece ∙ ap (λ m. get_or pieces m no_piece) there) ∙ main (omega (arith, size)) no_piece) in
+    (λ below. ap is_part (get_or-drop (start + 1) pieces n no_piece ∙ ap (λ m. get_or pieces m no_piece) there)
+    ∙ main (omega (arith, size)) no_piece) in
     omega (arith, is, there)

@@ -1,5 +1,6 @@
 -- What the sections of a file ignore, by their names.
-use Rattle.std.proofs.Common.{◌≡◌, ℕ, ◌+◌, ◌<◌, ◌≤◌, List, [], ◌∷◌, Bool, true, false, cond, not, length, map, take, get_or, refl, ap, sym, ◌∙◌, arith}
+use Rattle.std.proofs.Common.{◌≡◌, ℕ, ◌+◌, ◌<◌, ◌≤◌, List, [], ◌∷◌, Bool, true, false, cond, not, length, map, take, get_or, refl, ap, sym}
+use Rattle.std.proofs.Common.{◌∙◌, arith}
 use Rattle.std.specs.Prelude.{count_by, sum_by}
 use Rattle.std.specs.List.{list_any}
 use Rattle.std.specs.Str.{bytes_eq}
@@ -33,11 +34,15 @@ other_name a b h = by_test (bytes_eq b a) refl where
   by_test true is = let same = (bytes_eq-Decides a b).1 (sym ((bytes_eq-Decides b a).0 is)) in absurd (cc)
   by_test false is = is
 
-found_behind : (section : Section) (sections rest : List Section) → list_any (bytes_eq section.name) (names_of rest) ≡ false → AreFound sections rest → AreFound (section ∷ sections) rest
+found_behind : (section : Section) (sections rest : List Section) → list_any (bytes_eq section.name) (names_of rest) ≡ false
+    → AreFound sections rest → AreFound (section ∷ sections) rest
 found_behind section sections [] apart h = tt
 found_behind section sections (next ∷ rest) apart h =
-    let parts = or_parts _ _ apart in
-    (ap (λ b. cond b section.assigns (assigns_of sections next.name)) (other_name section.name next.name parts.0) ∙ h.0, found_behind section sections rest parts.1 h.1)
+    let parts = or_parts _ _ apart in (
+      ap (λ b. cond b section.assigns (assigns_of sections next.name)) (other_name section.name next.name parts.0)
+          ∙ h.0,
+      found_behind section sections rest parts.1 h.1,
+    )
 
 are_found : (sections : List Section) → differ (names_of sections) ≡ true → AreFound sections sections
 are_found [] apart = tt
@@ -47,22 +52,28 @@ are_found (section ∷ sections) apart =
       found_behind section sections sections (not-true _ parts.0) (are_found sections parts.1),
     )
 
-sum_found : (sections rest : List Section) → AreFound sections rest → sum_by (λ name. ignored_in (found sections name)) (names_of rest) ≡ sum_by ignored_in rest
+sum_found : (sections rest : List Section) → AreFound sections rest
+    → sum_by (λ name. ignored_in (found sections name)) (names_of rest) ≡ sum_by ignored_in rest
 sum_found sections [] h = refl
 sum_found sections (section ∷ rest) h =
     sum_by-cons (λ name. ignored_in (found sections name)) section.name (names_of rest)
-    ∙ ap (λ (assigns : List Assign). ignored_in (record { name = section.name; assigns = assigns }) + sum_by (λ name. ignored_in (found sections name)) (names_of rest)) h.0
+    ∙ ap (λ (assigns : List Assign). ignored_in (record { name = section.name; assigns = assigns }) + sum_by
+    (λ name. ignored_in (found sections name)) (names_of rest)) h.0
     ∙ ap (λ n. ignored_in section + n) (sum_found sections rest h.1) ∙ sym (sum_by-cons ignored_in section rest)
 
 -- the sum over the names is that over the sections
-pub sum_names : (sections : List Section) (names : List (List ℕ)) → IsParsed sections → names ≡ names_of sections → sum_by (λ name. ignored_in (found sections name)) names ≡ sum_by ignored_in sections
-sum_names sections names parsed are = ap (sum_by (λ name. ignored_in (found sections name))) are ∙ sum_found sections sections (are_found sections parsed.apart)
+pub sum_names : (sections : List Section) (names : List (List ℕ)) → IsParsed sections → names ≡ names_of sections
+    → sum_by (λ name. ignored_in (found sections name)) names ≡ sum_by ignored_in sections
+sum_names sections names parsed are = ap (sum_by (λ name. ignored_in (found sections name))) are
+    ∙ sum_found sections sections (are_found sections parsed.apart)
 
-chosen_length : (b : Bool) (assigns others : List Assign) (n m : ℕ) → length assigns + n ≡ m → length others ≤ n → length (cond b assigns others) ≤ m
+chosen_length : (b : Bool) (assigns others : List Assign) (n m : ℕ) → length assigns + n ≡ m → length others ≤ n
+    → length (cond b assigns others) ≤ m
 chosen_length true assigns others n m is le = omega arith
 chosen_length false assigns others n m is le = omega arith
 
-length-assigns_of : (sections : List Section) (name : List ℕ) → length (assigns_of sections name) ≤ sum_by (λ (s : Section). length s.assigns) sections
+length-assigns_of : (sections : List Section) (name : List ℕ)
+    → length (assigns_of sections name) ≤ sum_by (λ (s : Section). length s.assigns) sections
 length-assigns_of [] name = omega arith
 length-assigns_of (section ∷ sections) name =
     chosen_length (bytes_eq name section.name) section.assigns (assigns_of sections name) _ _
@@ -77,7 +88,8 @@ chosen_count false count size le = omega arith
 
 ignored_in-le : (section : Section) → ignored_in section ≤ length section.assigns
 ignored_in-le section =
-    chosen_count (bytes_eq section.name partition) (count_by (λ (assign : Assign). not (is_key assign.key)) section.assigns) (length section.assigns)
+    chosen_count (bytes_eq section.name partition) (count_by (λ (assign : Assign). not (is_key assign.key)) section.assigns)
+    (length section.assigns)
     (count_by-le-length (λ (assign : Assign). not (is_key assign.key)) section.assigns)
 
 ignored-le : (sections : List Section) → sum_by ignored_in sections ≤ sum_by (λ (s : Section). length s.assigns) sections
@@ -90,12 +102,14 @@ pub few_ignored : (sections : List Section) → IsParsed sections → sum_by ign
 few_ignored sections parsed = let few = parsed.few in let le = ignored-le sections in omega arith
 
 -- with one more name the sum stays in bounds
-pub one_more : (sections : List Section) (names : List (List ℕ)) (i : ℕ) (name : List ℕ) → IsParsed sections → names ≡ names_of sections → i < length names → name ≡ get_or names i name
+pub one_more : (sections : List Section) (names : List (List ℕ)) (i : ℕ) (name : List ℕ) → IsParsed sections → names ≡ names_of sections
+    → i < length names → name ≡ get_or names i name
     → sum_by (λ name. ignored_in (found sections name)) (take i names) + ignored_in (found sections name) ≤ 65536
 one_more sections names i name parsed are lt is =
     let sum = λ (ns : List (List ℕ)). sum_by (λ name. ignored_in (found sections name)) ns in
     let more : sum (take (i + 1) names) ≡ sum (take i names) + ignored_in (found sections name) =
-    sum_by_more (λ name. ignored_in (found sections name)) names i name lt ∙ ap (λ n. sum (take i names) + ignored_in (found sections n)) (sym is) in
+    sum_by_more (λ name. ignored_in (found sections name)) names i name lt
+    ∙ ap (λ n. sum (take i names) + ignored_in (found sections n)) (sym is) in
     let part = sum_by-take-le (λ name. ignored_in (found sections name)) names (i + 1) in
     let all = sum_names sections names parsed are in let few = few_ignored sections parsed in
     omega (arith, more, part, all, few)

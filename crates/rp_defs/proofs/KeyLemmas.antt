@@ -1,5 +1,6 @@
 -- The names of the keys, and their places.
-use Rattle.std.proofs.Common.{◌≡◌, ℕ, zero, suc, ◌+◌, ◌<◌, List, [], ◌∷◌, Bool, true, false, cond, Some, None, length, map, get_or, position, refl, ap, sym, ◌∙◌, arith}
+use Rattle.std.proofs.Common.{◌≡◌, ℕ, zero, suc, ◌+◌, ◌<◌, List, [], ◌∷◌, Bool, true, false, cond, Some, None, length, map, get_or}
+use Rattle.std.proofs.Common.{position, refl, ap, sym, ◌∙◌, arith}
 use Prim.Native.Nat.compare
 use Rattle.std.specs.Prelude.{nat_lt, not, ◌||◌, is_some}
 use Rattle.std.specs.Borrow.{Bor}
@@ -10,7 +11,8 @@ use Rattle.std.proofs.lemmas.List.{length-map}
 use Rattle.rp_ini.proofs.FileLemmas.{position_or_len-map}
 use Rattle.rp_defs.specs.declared.keys.Reader.{Reader}
 use Rattle.rp_defs.specs.declared.keys.Reader.TheVariants.{Refused}
-use Rattle.rp_defs.specs.Keys.{keys, key_names, key_name, reader_of, is_key}
+use Rattle.rp_defs.specs.Keys.{key_names, key_name, is_key}
+use Rattle.rp_defs.specs.Readers.{keys, reader_of}
 
 -- a row as it was lent
 abbrev Lent : Type 0
@@ -31,7 +33,8 @@ place_of-lent name lent is =
     ∙ ap (position (λ (row : List ℕ × Reader). bytes_eq name row.0)) is
     ∙ sym (position-map (λ (row : List ℕ × Reader). row.0) (bytes_eq name) keys)
 
-get_or-map : {A B : Type 0} (f : A → B) (xs : List A) (place : ℕ) (d : A) (e : B) → place < length xs → f (get_or xs place d) ≡ get_or (map f xs) place e
+get_or-map : {A B : Type 0} (f : A → B) (xs : List A) (place : ℕ) (d : A) (e : B) → place < length xs
+    → f (get_or xs place d) ≡ get_or (map f xs) place e
 get_or-map f [] place d e lt = absurd (omega arith)
 get_or-map f (x ∷ xs) zero d e lt = refl
 get_or-map f (x ∷ xs) (suc place) d e lt = get_or-map f xs place d e (omega arith)
@@ -70,7 +73,8 @@ some_where false n = refl
 
 pub is_key-place : (name : List ℕ) → is_some (position (bytes_eq name) key_names) ≡ is_key name
 unfolding is_key
-is_key-place name = some_where (nat_lt (position_or_len (bytes_eq name) key_names) (length key_names)) (position_or_len (bytes_eq name) key_names) ∙ is_found (bytes_eq name) key_names
+is_key-place name = some_where (nat_lt (position_or_len (bytes_eq name) key_names) (length key_names))
+    (position_or_len (bytes_eq name) key_names) ∙ is_found (bytes_eq name) key_names
 
 -- a name that has no place is no key's
 pub absent : (name : List ℕ) → None ≡ position (bytes_eq name) key_names → list_any (bytes_eq name) key_names ≡ false

@@ -13,3 +13,7 @@ pub mod PairLemmas
 pub mod Partners
 pub mod WantLemmas
 pub mod ValueLemmas
+pub mod TiedValues
+pub mod TiedDraft
+pub mod TiedPairs
+pub mod Tied

@@ -11,7 +11,8 @@ use Rattle.rp_defs.proofs.SectionLemmas.{each-push, each-fault}
 -- numbers up to one, that one, and those behind it
 range_split : (a n k j : ℕ) → k < n → a + k ≡ j → (behind : List ℕ) × (range_with_len a n ≡ range_with_len a k ++ j ∷ behind)
 range_split a zero k j lt e = absurd (omega arith)
-range_split a (suc n) zero j lt e = let same : a ≡ j = omega arith in (range_with_len (a + 1) n, ap (λ x. x ∷ range_with_len (a + 1) n) same)
+range_split a (suc n) zero j lt e = let same : a ≡ j =
+    omega arith in (range_with_len (a + 1) n, ap (λ x. x ∷ range_with_len (a + 1) n) same)
 range_split a (suc n) (suc k) j lt e = let rest = range_split (a + 1) n k j (omega arith) (omega arith) in (rest.0, ap (λ l. a ∷ l) rest.1)
 
 range_last : (a n j : ℕ) → a + n ≡ j → range_with_len a (suc n) ≡ range_with_len a n ++ j ∷ []
@@ -29,13 +30,15 @@ given answer value (inl is) = sym is
 given answer value (inr is) = absurd (cc)
 
 -- with the value of one more key
-pub values_more : (f : ℕ → Answer) (key : ℕ) (values : List (Option Value)) (value : Option Value) → each f (range_with_len 0 key) ≡ Ok values
+pub values_more : (f : ℕ → Answer) (key : ℕ) (values : List (Option Value)) (value : Option Value)
+    → each f (range_with_len 0 key) ≡ Ok values
     → Gives no_memory (f key) (Ok value) → each f (range_with_len 0 (key + 1)) ≡ Ok (values ++ value ∷ [])
 values_more f key values value so_far gives =
     ap (each f) (range_more key) ∙ each-push f (range_with_len 0 key) key values value so_far (given (f key) value gives)
 
 -- with the fault of one more key
-pub values_faulty : (f : ℕ → Answer) (n key : ℕ) (values : List (Option Value)) (fault : DefFault) → key < n → each f (range_with_len 0 key) ≡ Ok values
+pub values_faulty : (f : ℕ → Answer) (n key : ℕ) (values : List (Option Value)) (fault : DefFault) → key < n
+    → each f (range_with_len 0 key) ≡ Ok values
     → Gives no_memory (f key) (Err fault) → Gives no_memory (each f (range_with_len 0 n)) (Err fault)
 values_faulty f n key values fault lt so_far (inl is) =
     let split = range_split 0 n key key lt (omega arith) in

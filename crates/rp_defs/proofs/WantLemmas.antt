@@ -9,5 +9,6 @@ use Rattle.rp_defs.specs.WellFormed.{IsSound, IsWellFormed}
 pub are_wants : (list : List Definition) → IsWellFormed list → AreWants (map (λ (d : Definition). d.want) list)
 are_wants list well = record {
   few = omega (arith, well.few, length-map list (λ (d : Definition). d.want));
-  each = All-map IsWant (λ (d : Definition). d.want) list (All-weaker IsSound (λ (d : Definition). IsWant d.want) (λ d sound. sound.want) list well.each);
+  each = All-map IsWant (λ (d : Definition). d.want) list
+      (All-weaker IsSound (λ (d : Definition). IsWant d.want) (λ d sound. sound.want) list well.each);
 }

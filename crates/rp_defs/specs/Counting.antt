@@ -4,7 +4,7 @@ use Rattle.std.specs.List.{list_any}
 use Rattle.std.specs.Str.{bytes_eq}
 use Rattle.rp_ini.specs.Lines.{Section}
 use Rattle.rp_defs.specs.declared.setting.Setting.{Setting}
-use Rattle.rp_defs.specs.Settings.{Keyed, counting_of}
+use Rattle.rp_defs.specs.Kept.{Keyed, counting_of}
 
 -- where the settings before are those of some assignments, the settings after are those of these assignments too
 abbrev pub CountsAlso : List Keyed → List (Option Setting) → List (Option Setting) → Type 0

@@ -5,7 +5,7 @@ use Rattle.rp_files.specs.declared.piece.Piece.{Piece}
 use Rattle.rp_defs.specs.declared.draft.Drafts.{Drafts}
 use Rattle.rp_defs.specs.declared.fault.DefFault.{DefFault}
 use Rattle.rp_defs.specs.Answers.{after, each}
-use Rattle.rp_defs.specs.Records.{Drafted, drafted_group}
+use Rattle.rp_defs.specs.Drafts.{Drafted, drafted_group}
 use Rattle.rp_defs.specs.Settings.{groups_of}
 
 -- the drafts, and how many assignments of all are ignored

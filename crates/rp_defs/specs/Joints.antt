@@ -15,8 +15,10 @@ abbrev pub joint_of : List Draft → Draft → Joint
 joint_of drafts draft = of_half draft.half where
   of_half : Half → Joint
   of_half Off = record { verity = draft.definition.verity; priority = draft.definition.priority }
-  of_half Data = let place = place_of drafts Hash draft in record { verity = verity.Data place; priority = shared_priority drafts place draft }
-  of_half Hash = let place = place_of drafts Data draft in record { verity = verity.Hash place; priority = shared_priority drafts place draft }
+  of_half Data = let place =
+      place_of drafts Hash draft in record { verity = verity.Data place; priority = shared_priority drafts place draft }
+  of_half Hash = let place =
+      place_of drafts Data draft in record { verity = verity.Hash place; priority = shared_priority drafts place draft }
 
 -- the fault of a half that isn't joined
 abbrev pub pair_fault : Draft → DefFault

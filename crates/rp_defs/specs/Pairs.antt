@@ -1,10 +1,10 @@
--- Verity pairs (repart.d(5), Verity= and VerityMatchKey=): a data definition and a hash definition of one key.
-use Rattle.std.specs.Prelude.{ℕ, ℤ, List, Bool, true, false, not, ◌&&◌, ◌==◌, int_le, if◌then◌else◌, Option, Some, None, Result, Ok, Err, count_by, find, map, slice_get}
+-- Verity pairs of drafts, as the code has them.
+use Rattle.std.specs.Prelude.{ℕ, ℤ, List, Bool, true, false, not, ◌&&◌, ◌==◌, Option, Some, None, Result, Ok, Err, count_by, find, map}
+use Rattle.std.specs.Prelude.{slice_get}
 use Rattle.std.specs.List.{position_or_len}
 use Rattle.std.specs.Option.{option_map_or, is_some, is_none}
 use Rattle.std.specs.Str.{bytes_eq}
 use Rattle.rp_defs.specs.declared.definition.Definition.{Definition}
-use Rattle.rp_defs.specs.declared.definition.Verity.{Verity}
 use Rattle.rp_defs.specs.declared.definition.Verity.TheVariants as verity
 use Rattle.rp_defs.specs.declared.draft.Draft.{Draft}
 use Rattle.rp_defs.specs.declared.draft.Half.{Half}
@@ -12,6 +12,7 @@ use Rattle.rp_defs.specs.declared.draft.Half.TheVariants.{Off, Data, Hash}
 use Rattle.rp_defs.specs.declared.fault.DefFault.{DefFault}
 use Rattle.rp_defs.specs.declared.fault.DefKind.TheVariants.{VerityPair}
 use Rattle.rp_defs.specs.Faults.{whole_fault}
+use Rattle.rp_defs.specs.Partner.{greater, with_partner}
 
 -- whether two halves are one
 abbrev pub same_half : Half → Half → Bool
@@ -44,37 +45,20 @@ is_joined drafts draft = joined draft.half where
 abbrev pub place_of : List Draft → Half → Draft → ℕ
 place_of drafts half draft = option_map_or (λ key. position_or_len (is_half half key) drafts) draft.match_key 0
 
--- the greater of two priorities
-abbrev pub greater : ℤ → ℤ → ℤ
-greater a b = if int_le a b then b else a
-
 -- the greater of a draft's priority and that of the draft at a place
 abbrev pub shared_priority : List Draft → ℕ → Draft → ℤ
-shared_priority drafts place draft = option_map_or (λ other. greater draft.definition.priority other.definition.priority) (slice_get drafts place) draft.definition.priority
-
--- a definition with another verity and priority
-abbrev pub with_partner : Definition → Verity → ℤ → Definition
-with_partner d own priority = record {
-  file = d.file;
-  kind = d.kind;
-  label = d.label;
-  id = d.id;
-  priority = priority;
-  want = d.want;
-  attrs = d.attrs;
-  source = d.source;
-  verity = own;
-  factory_reset = d.factory_reset;
-  split = d.split;
-}
+shared_priority drafts place draft =
+    option_map_or (λ other. greater draft.definition.priority other.definition.priority) (slice_get drafts place) draft.definition.priority
 
 -- the definition of a draft: half of a pair names its partner, and both halves have the greater of their priorities
 abbrev pub definition_of : List Draft → Draft → Definition
 definition_of drafts draft = of_half draft.half where
   of_half : Half → Definition
   of_half Off = draft.definition
-  of_half Data = let place = place_of drafts Hash draft in with_partner draft.definition (verity.Data place) (shared_priority drafts place draft)
-  of_half Hash = let place = place_of drafts Data draft in with_partner draft.definition (verity.Hash place) (shared_priority drafts place draft)
+  of_half Data = let place =
+      place_of drafts Hash draft in with_partner draft.definition (verity.Data place) (shared_priority drafts place draft)
+  of_half Hash = let place =
+      place_of drafts Data draft in with_partner draft.definition (verity.Hash place) (shared_priority drafts place draft)
 
 -- the definitions of these drafts, or the fault of the first that isn't joined
 unfoldable pub paired : List Draft → Result (List Definition) DefFault

@@ -1,5 +1,6 @@
 -- What the pieces of a definition set (repart.d(5), systemd.unit(5) on drop-ins).
-use Rattle.std.specs.Prelude.{ℕ, ◌≢◌, List, [], ◌∷◌, not, ◌==◌, if◌then◌else◌, Option, Some, None, IfSome, Result, Ok, Err, codes, count_by, find, length, map, reverse, sum_by}
+use Rattle.std.specs.Prelude.{ℕ, List, [], ◌∷◌, not, ◌==◌, if◌then◌else◌, Option, Some, None, Result, Ok, Err, codes, count_by, find}
+use Rattle.std.specs.Prelude.{length, map, reverse, sum_by}
 use Rattle.std.specs.List.{flat_map}
 use Rattle.std.specs.Option.{option_and_then}
 use Rattle.std.specs.Str.{bytes_eq}
@@ -10,9 +11,8 @@ use Rattle.rp_ini.specs.declared.fault.IniFault.TheVariants as ini
 use Rattle.rp_files.specs.declared.piece.Piece.{Piece}
 use Rattle.rp_defs.specs.declared.fault.DefFault.{DefFault}
 use Rattle.rp_defs.specs.declared.fault.DefKind.TheVariants.{Ini}
-use Rattle.rp_defs.specs.declared.setting.Setting.{Setting}
 use Rattle.rp_defs.specs.Answers.{each}
-use Rattle.rp_defs.specs.Keys.{key_names, is_key}
+use Rattle.rp_defs.specs.Keys.{is_key}
 
 -- the line of a text's fault; `assignments` never answers want of memory
 abbrev pub line_of : IniFault → ℕ
@@ -34,35 +34,25 @@ sections_of piece = sections_in piece (assignments piece.bytes)
 abbrev pub partition : List ℕ
 partition = codes "Partition"
 
--- a key, and the setting of an assignment of it
-abbrev pub Keyed : Type 0
-Keyed = List ℕ × Setting
+-- an assignment of [Partition], with the piece that it stands in
+abbrev pub Placed : Type 0
+Placed = Piece × Assign
 
-abbrev pub keyed : Piece → Assign → Keyed
-keyed piece assign = (assign.key, record { part = piece.part; value = assign.value; line = assign.line })
-
-abbrev pub keyed_in : Piece × List Section → List Keyed
-keyed_in read = map (keyed read.0) (assigns_of read.1 partition)
+abbrev pub placed_in : Piece × List Section → List Placed
+placed_in read = map (λ assign. (read.0, assign)) (assigns_of read.1 partition)
 
 -- an empty value means unset
-abbrev pub unless_empty : Keyed → Option Setting
-unless_empty set = if length set.1.value == 0 then None else Some set.1
+abbrev pub unless_empty : Placed → Option Placed
+unless_empty placed = if length placed.1.value == 0 then None else Some placed
 
--- the setting of a key that counts: the last one; where that is empty, none
-abbrev pub counting : List Keyed → List ℕ → Option Setting
-counting all name = option_and_then unless_empty (find (λ set. bytes_eq set.0 name) (reverse all))
-
--- the settings that count, by the places of the keys
-unfoldable pub counting_of : List Keyed → List (Option Setting)
-counting_of all = map (counting all) key_names
-
--- where a key is set, its value is not empty
-abbrev pub IsSet : Option Setting → Type 0
-IsSet set = IfSome set (λ setting. setting.value ≢ [])
+-- the assignment of a key that counts: the last one; where that is empty, none
+abbrev pub counting : List Placed → List ℕ → Option Placed
+counting all name = option_and_then unless_empty (find (λ placed. bytes_eq placed.1.key name) (reverse all))
 
 -- how many assignments of a section are ignored: of [Partition] those of unknown keys, of another section all
 abbrev pub ignored_in : Section → ℕ
-ignored_in section = if bytes_eq section.name partition then count_by (λ assign. not (is_key assign.key)) section.assigns else length section.assigns
+ignored_in section = if bytes_eq section.name partition then count_by
+    (λ assign. not (is_key assign.key)) section.assigns else length section.assigns
 
 -- each piece with its sections, or the first fault
 abbrev pub read_pieces : List Piece → Result (List (Piece × List Section)) DefFault
@@ -72,8 +62,8 @@ read_pieces pieces = each (λ piece. with_piece piece (sections_of piece)) piece
   with_piece piece (Err fault) = Err fault
 
 -- what pieces that were read set, and how many of their assignments are ignored
-abbrev pub all_keyed : List (Piece × List Section) → List Keyed
-all_keyed read = flat_map keyed_in read
+abbrev pub all_placed : List (Piece × List Section) → List Placed
+all_placed read = flat_map placed_in read
 
 abbrev pub all_ignored : List (Piece × List Section) → ℕ
 all_ignored read = sum_by (λ one. sum_by ignored_in one.1) read
@@ -82,7 +72,8 @@ all_ignored read = sum_by (λ one. sum_by ignored_in one.1) read
 abbrev pub before_groups : Piece → List (List Piece) → List (List Piece)
 before_groups piece [] = (piece ∷ []) ∷ []
 before_groups piece ([] ∷ groups) = (piece ∷ []) ∷ groups
-before_groups piece ((next ∷ own) ∷ groups) = if length next.part == 0 then (piece ∷ []) ∷ (next ∷ own) ∷ groups else (piece ∷ next ∷ own) ∷ groups
+before_groups piece ((next ∷ own) ∷ groups) =
+    if length next.part == 0 then (piece ∷ []) ∷ (next ∷ own) ∷ groups else (piece ∷ next ∷ own) ∷ groups
 
 -- the pieces of each definition: a main file with the drop-ins behind it
 unfoldable pub groups_of : List Piece → List (List Piece)

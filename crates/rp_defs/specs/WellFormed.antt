@@ -31,14 +31,17 @@ pub record IsPair (data_place hash_place : ℕ) (of_data of_hash : Definition) :
 -- a definition's partner is there
 abbrev pub HasPartner : List Definition → ℕ → Definition → Verity → Type 0
 HasPartner list place definition Off = ⊤
-HasPartner list place definition (Data partner) = (other : Definition) × (slice_get list partner ≡ Some other) × IsPair place partner definition other
-HasPartner list place definition (Hash partner) = (other : Definition) × (slice_get list partner ≡ Some other) × IsPair partner place other definition
+HasPartner list place definition (Data partner) = (other : Definition) × (slice_get list partner ≡ Some other)
+    × IsPair place partner definition other
+HasPartner list place definition (Hash partner) = (other : Definition) × (slice_get list partner ≡ Some other)
+    × IsPair partner place other definition
 
 -- at most 256 definitions, each sound, and each half of a pair with its partner
 pub record IsWellFormed (list : List Definition) : Type 0 where
   pub few : length list ≤ 256
   pub each : All IsSound list
-  pub partners : (place : ℕ) (definition : Definition) → slice_get list place ≡ Some definition → HasPartner list place definition definition.verity
+  pub partners : (place : ℕ) (definition : Definition) → slice_get list place ≡ Some definition
+      → HasPartner list place definition definition.verity
 
 -- by half: the same of a draft
 abbrev pub IsSizedHalf : Half → Definition → Type 0

@@ -1,7 +1,8 @@
 ghost use Rattle.std.specs.Prelude.{◌≡◌, ◌≤◌, false};
 ghost use Rattle.std.specs.Option.{option_map_or};
 ghost use Rattle.rp_types.specs.Types.{designator_of};
-ghost use Rattle.rp_defs.specs.Records.{attrs_of, bit_of, is_hash_designator, is_hash_type};
+ghost use Rattle.rp_defs.specs.Attributes.{bit_of, is_hash_designator, is_hash_type};
+ghost use Rattle.rp_defs.specs.Drafts.{attrs_of};
 
 use crate::keys::Key;
 use crate::value::{Value, switch_in};
@@ -9,7 +10,7 @@ use rp_base::Guid;
 use rp_types::{Arch, Designator, GROW_FILE_SYSTEM, NO_AUTO, READ_ONLY, bits, designator_of};
 
 /// The attributes of a new partition of this type, as far as the type supports them.
-#[tactic(auto, unfolding(crate::specs::Records::attrs_of))]
+#[tactic(auto, unfolding(crate::specs::Drafts::attrs_of))]
 pub(crate) fn attrs_of(kind: Guid, values: &[Option<Value>]) -> u64
     ensures { result ≡ attrs_of kind values.now }
 {

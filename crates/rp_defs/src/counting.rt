@@ -1,5 +1,5 @@
 ghost use Rattle.std.specs.Prelude.{◌≡◌, ◌<◌, [], ◌∷◌, map, length, slice_set, IfOk};
-ghost use Rattle.rp_defs.specs.Settings.{counting_of, keyed, unless_empty};
+ghost use Rattle.rp_defs.specs.Kept.{counting_of, keyed, unless_empty};
 ghost use Rattle.rp_defs.specs.Counting.{CountsAlso};
 
 use crate::keys::{KEYS, place_of};

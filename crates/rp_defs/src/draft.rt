@@ -1,8 +1,9 @@
 ghost use Rattle.std.specs.Prelude.{◌≡◌, ◌≢◌, All, IfErr, IfOk, IfSome, replicate};
 ghost use Rattle.rp_base.specs.Answers.{Gives};
 ghost use Rattle.rp_defs.specs.Faults.{no_memory, IsSoundFault};
-ghost use Rattle.rp_defs.specs.Records.{draft_from, draft_of, half_said, has_no_size, priority_said, want_of, within_limits};
-ghost use Rattle.rp_defs.specs.Settings.{IsSet};
+ghost use Rattle.rp_defs.specs.Drafts.{draft_from, draft_of, half_said, priority_said, want_of, within_limits};
+ghost use Rattle.rp_defs.specs.Limits.{has_no_size};
+ghost use Rattle.rp_defs.specs.Kept.{IsSet};
 ghost use Rattle.rp_defs.specs.Value.{IsBounded};
 ghost use Rattle.rp_defs.specs.WellFormed.{IsSoundDraft};
 
@@ -43,7 +44,7 @@ pub(crate) struct Drafts {
 
 /// The draft of a definition from the settings that count, or its first fault: values in the order of the keys, then
 /// the limits.
-#[tactic(auto, unfolding(crate::specs::Records::draft_of))]
+#[tactic(auto, unfolding(crate::specs::Drafts::draft_of))]
 pub(crate) fn draft_of(
     alloc: Global,
     file: &str,

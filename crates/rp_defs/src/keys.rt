@@ -1,6 +1,7 @@
 ghost use Rattle.std.specs.Prelude.{◌≡◌, ◌<◌, map, position};
 ghost use Rattle.std.specs.Str.{bytes_eq};
-ghost use Rattle.rp_defs.specs.Keys.{key_name, key_names, is_key, keys, number_of, reader_of};
+ghost use Rattle.rp_defs.specs.Keys.{key_name, key_names, is_key};
+ghost use Rattle.rp_defs.specs.Readers.{keys, number_of, reader_of};
 
 /// The keys of `[Partition]` (repart.d(5)), in the order in which they are read. A key's number in a fault is its place
 /// here.
@@ -72,7 +73,7 @@ pub(crate) enum Reader {
 /// How many keys there are.
 pub(crate) const KEYS: usize = 26;
 
-/// The name of each key and how its value is read, by number. The same table stands in specs/Keys.antt.
+/// The name of each key and how its value is read, by number. The same table stands in specs/Readers.antt.
 static TABLE: [(&str, Reader); KEYS] = [
     ("Type", Reader::Type),
     ("Label", Reader::Label),

@@ -3,7 +3,8 @@ ghost use Rattle.std.specs.List.{position_or_len};
 ghost use Rattle.rp_base.specs.Answers.{Gives};
 ghost use Rattle.rp_defs.specs.Faults.{no_memory, IsFault, IsSoundFault};
 ghost use Rattle.rp_defs.specs.Joints.{joint_of, pair_fault};
-ghost use Rattle.rp_defs.specs.Pairs.{paired, definition_of, has_pair, is_half, is_joined, is_pair, place_of, shared_priority, greater, with_partner};
+ghost use Rattle.rp_defs.specs.Pairs.{paired, definition_of, has_pair, is_half, is_joined, is_pair, place_of, shared_priority};
+ghost use Rattle.rp_defs.specs.Partner.{greater, with_partner};
 ghost use Rattle.rp_defs.specs.WellFormed.{IsSoundDraft, IsWellFormed};
 
 use crate::draft::{Draft, Half};

@@ -2,6 +2,7 @@ ghost use Rattle.std.specs.Prelude.{◌≡◌, ◌≢◌, ◌<◌, [], IfErr, If
 ghost use Rattle.rp_base.specs.Answers.{Gives};
 ghost use Rattle.rp_defs.specs.Faults.{IsKnown};
 ghost use Rattle.rp_defs.specs.Value.{IsBounded};
+ghost use Rattle.rp_defs.specs.Said as typed;
 ghost use Rattle.rp_defs.specs.Values as grammar;
 ghost use Rattle.rp_defs.specs.declared.fault.DefKind.TheVariants.{Memory as no_memory};
 
@@ -80,7 +81,7 @@ fn label(alloc: Global, key: u8, text: &str, arch: Arch) -> Result<Option<Value>
 // What the fault of a label is as one of its key.
 fn label_kind(key: u8, fault: LabelFault) -> DefKind
     requires { key < 26 }
-    ensures kind { result ≡ grammar.label_kind key fault }
+    ensures kind { result ≡ typed.label_kind key fault }
     ensures told { IsKnown result }
 {
     match fault {
@@ -222,7 +223,7 @@ fn split_name(alloc: Global, key: u8, text: &str, arch: Arch) -> Result<Option<V
 // What the fault of a split file's name is as one of its key.
 fn split_kind(key: u8, fault: SplitFault) -> DefKind
     requires { key < 26 }
-    ensures kind { result ≡ grammar.split_kind key fault }
+    ensures kind { result ≡ typed.split_kind key fault }
     ensures told { IsKnown result }
 {
     match fault {

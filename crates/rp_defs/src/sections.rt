@@ -3,7 +3,8 @@ ghost use Rattle.rp_base.specs.Answers.{Gives};
 ghost use Rattle.rp_files.specs.declared.piece.Piece.{Piece as Read};
 ghost use Rattle.rp_defs.specs.Faults.{no_memory, IsFault, IsSoundFault};
 ghost use Rattle.rp_defs.specs.Answers.{after};
-ghost use Rattle.rp_defs.specs.Settings.{read_pieces, all_keyed, all_ignored, counting_of, sections_of, keyed_in, ignored_in, line_of};
+ghost use Rattle.rp_defs.specs.Kept.{all_keyed, counting_of, keyed_in};
+ghost use Rattle.rp_defs.specs.Settings.{read_pieces, all_ignored, sections_of, ignored_in, line_of};
 ghost use Rattle.rp_defs.specs.Counting.{CountsAlso, IsParsed};
 
 use crate::counting::{no_settings, with_assigns};

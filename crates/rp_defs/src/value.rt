@@ -1,6 +1,6 @@
 ghost use Rattle.std.specs.Prelude.{◌≡◌, None, slice_index_or, slice_set};
 ghost use Rattle.std.specs.Option.{option_and_then, option_copied};
-ghost use Rattle.rp_defs.specs.Keys.{number_of};
+ghost use Rattle.rp_defs.specs.Readers.{number_of};
 ghost use Rattle.rp_defs.specs.Value as said;
 
 use crate::draft::Half;

@@ -2,7 +2,7 @@ ghost use Rattle.std.specs.Prelude.{◌≡◌, ◌≢◌, ◌<◌, All, IfErr, I
 ghost use Rattle.std.specs.Option.{option_and_then, option_copied};
 ghost use Rattle.rp_base.specs.Answers.{Gives};
 ghost use Rattle.rp_defs.specs.Faults.{no_memory, IsFault, IsKnown, IsSoundFault};
-ghost use Rattle.rp_defs.specs.Settings.{IsSet};
+ghost use Rattle.rp_defs.specs.Kept.{IsSet};
 ghost use Rattle.rp_defs.specs.Value as said;
 ghost use Rattle.rp_defs.specs.Value.{IsBounded};
 ghost use Rattle.rp_defs.specs.Values as grammar;

@@ -1,5 +1,6 @@
 ghost use Rattle.std.specs.Prelude.{◌≡◌};
-ghost use Rattle.rp_defs.specs.Records.{max_of, min_of, want_of};
+ghost use Rattle.rp_defs.specs.Drafts.{want_of};
+ghost use Rattle.rp_defs.specs.Limits.{max_of, min_of};
 
 use crate::draft::Half;
 use crate::keys::Key;
@@ -14,7 +15,7 @@ const USUAL_WEIGHT: u64 = 1000;
 
 /// What a definition asks for, in grains. Half of a verity pair has no weight, and it may have no grain; any other has
 /// one at least.
-#[tactic(auto, unfolding(crate::specs::Records::want_of))]
+#[tactic(auto, unfolding(crate::specs::Drafts::want_of))]
 pub(crate) fn want_of(half: Half, values: &[Option<Value>]) -> Want
     ensures { result ≡ want_of half values.now }
 {

@@ -1,5 +1,5 @@
 use Rattle.std.proofs.Common.{◌≡◌, ap, ◌∙◌, replicate, Option, None, arith}
-use Rattle.rp_defs.specs.Settings.{counting_of}
+use Rattle.rp_defs.specs.Kept.{counting_of}
 use Rattle.rp_defs.specs.declared.setting.Setting.{Setting}
 use Rattle.rp_defs.proofs.counting.no_settings.Goals as goal
 

@@ -2,7 +2,7 @@ use Rattle.std.proofs.Common.{ap, sym, ◌∙◌, position}
 use Rattle.std.specs.Prelude.{Option, slice_set}
 use Rattle.std.specs.Str.{bytes_eq}
 use Rattle.rp_defs.specs.Keys.{key_names}
-use Rattle.rp_defs.specs.Settings.{keyed}
+use Rattle.rp_defs.specs.Kept.{keyed}
 use Rattle.rp_defs.specs.declared.setting.Setting.{Setting}
 use Rattle.rp_defs.proofs.AssignLemmas.{counts_unknown, counts_known}
 use Rattle.rp_defs.proofs.counting.with_assign.Goals as goal

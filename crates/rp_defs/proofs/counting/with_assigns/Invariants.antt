@@ -1,6 +1,6 @@
 -- The assignments so far count.
 use Rattle.std.proofs.Common.{◌≡◌, length, map, take}
-use Rattle.rp_defs.specs.Settings.{keyed}
+use Rattle.rp_defs.specs.Kept.{keyed}
 use Rattle.rp_defs.specs.Counting.{CountsAlso}
 use Rattle.rp_defs.proofs.counting.with_assigns.Given as goal
 

@@ -4,12 +4,13 @@ use Rattle.std.specs.Prelude.{slice_index_or}
 use Rattle.std.specs.Option.{option_and_then}
 use Rattle.std.proofs.Math.ListN.{set}
 use Rattle.rp_defs.specs.declared.value.Value.{Value}
-use Rattle.rp_defs.specs.Records.{draft_from}
+use Rattle.rp_defs.specs.Drafts.{draft_from}
 use Rattle.rp_defs.specs.Value.{text_of}
 use Rattle.rp_defs.proofs.draft.draft_from.Goals as goal
 
 -- a value stays where another is taken out
-kept : (values : List (Option Value)) (taken place : ℕ) → place ≢ taken → get_or (set values taken None) place None ≡ get_or values place None
+kept : (values : List (Option Value)) (taken place : ℕ) → place ≢ taken
+    → get_or (set values taken None) place None ≡ get_or values place None
 kept values taken place apart = rw get_or-set_other refl
 
 -- the text of the key of a number

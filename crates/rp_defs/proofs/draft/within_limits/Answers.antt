@@ -2,7 +2,8 @@ use Rattle.std.proofs.Common.{◌≡◌, ℕ, List, Option, Ok, ap, sym, subst, 
 use Rattle.rp_base.specs.declared.want.Want.{Want}
 use Rattle.rp_defs.specs.declared.draft.Half.{Half}
 use Rattle.rp_defs.specs.declared.value.Value.{Value}
-use Rattle.rp_defs.specs.Records.{half_said, has_no_size, want_of, draft_from}
+use Rattle.rp_defs.specs.Drafts.{half_said, want_of, draft_from}
+use Rattle.rp_defs.specs.Limits.{has_no_size}
 use Rattle.rp_defs.specs.WellFormed.{IsSoundDraft}
 use Rattle.rp_defs.proofs.BoundLemmas.{draft_sound, limits_kept, limits_broken}
 use Rattle.rp_defs.proofs.draft.within_limits.Goals as goal

@@ -12,4 +12,5 @@ returns-then-is_half-clause-place c =
     (λ _. ap p (sym c.index-drafts-place.is) ∙ sym c.is_half.ensures ∙ c.if-is_half.true))
 
 pub returns-clause-place : goal.returns-clause-place
-returns-clause-place c = no_place (is_half c.args.half c.args.key.now) c.args.drafts.now (λ k d below. c.loop-place.invariant k d (omega arith))
+returns-clause-place c =
+    no_place (is_half c.args.half c.args.key.now) c.args.drafts.now (λ k d below. c.loop-place.invariant k d (omega arith))

@@ -10,7 +10,8 @@ returns-then-not-is_joined-clause-answer c =
     let drafts = c.args.drafts.now in
     let unjoined = is_unjoined drafts in
     let fails = ap unjoined (sym c.draft-item.is) ∙ ap not (sym c.is_joined.ensures) ∙ ap not c.if-not-is_joined.true in
-    let found = find_here unjoined drafts c.loop-draft.draft-index c.draft-item.result c.loop-draft-test.true c.loop-draft.invariant.all fails in
+    let found = find_here unjoined drafts c.loop-draft.draft-index c.draft-item.result c.loop-draft-test.true c.loop-draft.invariant.all
+    fails in
     fault_gives drafts c.draft-item.result c.unpaired.result (found ∙ ap Some (sym c.draft-item.is)) c.unpaired.ensures.fault
 
 pub loop-draft-preserved : goal.loop-draft-preserved
@@ -18,12 +19,15 @@ loop-draft-preserved c =
     let drafts = c.args.drafts.now in
     let unjoined = is_unjoined drafts in
     let passes = ap unjoined (sym c.draft-item.is) ∙ ap not (sym c.is_joined.ensures) ∙ ap not c.if-not-is_joined.false in record {
-      joints = joints_more drafts c.loop-draft.joints c.push.new.self c.loop-draft.draft-index c.draft-item.result c.joint_of.result c.loop-draft-test.true c.draft-item.is
-          c.loop-draft.invariant.joints c.joint_of.ensures (pushed_ok c.push.result _ (sym c.is_err.ensures.value ∙ c.if-is_err.false) c.push.ensures.ok);
+      joints = joints_more drafts c.loop-draft.joints c.push.new.self c.loop-draft.draft-index c.draft-item.result c.joint_of.result
+          c.loop-draft-test.true c.draft-item.is
+          c.loop-draft.invariant.joints c.joint_of.ensures
+          (pushed_ok c.push.result _ (sym c.is_err.ensures.value ∙ c.if-is_err.false) c.push.ensures.ok);
       all = find_more unjoined drafts c.loop-draft.draft-index c.draft-item.result c.loop-draft-test.true c.loop-draft.invariant.all passes;
     }
 
 pub returns-clause-all : goal.returns-clause-all
 returns-clause-all c =
     let drafts = c.args.drafts.now in
-    paired_all drafts (ap (find (is_unjoined drafts)) (sym (take_all c.loop-draft.draft-index drafts (omega arith))) ∙ c.loop-draft.invariant.all)
+    paired_all drafts
+    (ap (find (is_unjoined drafts)) (sym (take_all c.loop-draft.draft-index drafts (omega arith))) ∙ c.loop-draft.invariant.all)

@@ -13,7 +13,8 @@ loop-start-init c =
     let listed : List Draft → Drafts = λ list. record { list = list; ignored = 0 } in
     record {
       within = omega arith;
-      answer = rest_first c.args.arch c.args.pieces.now ∙ ap (λ (list : List Draft). with_rest c.args.arch (listed list) c.args.pieces.now) (sym c.new.ensures);
+      answer = rest_first c.args.arch c.args.pieces.now
+          ∙ ap (λ (list : List Draft). with_rest c.args.arch (listed list) c.args.pieces.now) (sym c.new.ensures);
       count = omega (arith, ap length c.new.ensures);
       bound = omega arith;
       sound = All-same IsSoundDraft c.new.result _ c.new.ensures (All-nil IsSoundDraft);
@@ -23,7 +24,8 @@ pub returns-in_err-drafts-clause-answer : goal.returns-in_err-drafts-clause-answ
 returns-in_err-drafts-clause-answer c =
     let p = err_from_is_err_and c.from_residual.result c.from_residual.ensures.1 in
     let so_far = c.loop-start.invariant.answer
-    ∙ rest_step c.args.arch c.loop-start.drafts c.args.pieces.now c.loop-start.start c.group_end-end.result c.loop-start-test.true c.group_end-end.ensures.end in
+    ∙ rest_step c.args.arch c.loop-start.drafts c.args.pieces.now c.loop-start.start c.group_end-end.result c.loop-start-test.true
+    c.group_end-end.ensures.end in
     rw (p.1, p.2) (gives_same no_memory _ _ _ so_far (gives_fault no_memory _ _ _ c.in_err-drafts.ensures.answer))
 
 pub loop-start-preserved : goal.loop-start-preserved
@@ -33,7 +35,8 @@ loop-start-preserved c =
     record {
       within = omega arith;
       answer = c.loop-start.invariant.answer
-          ∙ rest_step c.args.arch c.loop-start.drafts pieces c.loop-start.start c.group_end-end.result c.loop-start-test.true c.group_end-end.ensures.end
+          ∙ rest_step c.args.arch c.loop-start.drafts pieces c.loop-start.start c.group_end-end.result c.loop-start-test.true
+          c.group_end-end.ensures.end
           ∙ gives_value no_memory _ _ c.in_ok-drafts.drafts c.in_ok-drafts.ensures.answer;
       count = omega (arith, c.in_ok-drafts.ensures.count);
       bound = omega (arith, c.in_ok-drafts.ensures.bound, length-take size (drop c.loop-start.start pieces));
@@ -42,4 +45,6 @@ loop-start-preserved c =
 
 pub returns-clause-answer : goal.returns-clause-answer
 returns-clause-answer c =
-    gives_same no_memory _ _ _ (c.loop-start.invariant.answer ∙ rest_last c.args.arch c.loop-start.drafts c.args.pieces.now c.loop-start.start (omega arith)) (inl refl)
+    gives_same no_memory _ _ _
+    (c.loop-start.invariant.answer ∙ rest_last c.args.arch c.loop-start.drafts c.args.pieces.now c.loop-start.start (omega arith))
+    (inl refl)

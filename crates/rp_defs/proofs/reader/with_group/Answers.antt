@@ -7,4 +7,5 @@ use Rattle.rp_defs.proofs.reader.with_group.Goals as goal
 pub returns-clause-sound : goal.returns-clause-sound
 returns-clause-sound c =
     let pushed = pushed_ok c.push.result _ (sym c.is_err.ensures.value ∙ c.if-is_err.false) c.push.ensures.ok in
-    All-same IsSoundDraft _ _ pushed (All-push IsSoundDraft c.args.drafts.list c.in_ok-draft.draft c.requires.sound c.in_ok-draft.ensures.sound)
+    All-same IsSoundDraft _ _ pushed
+    (All-push IsSoundDraft c.args.drafts.list c.in_ok-draft.draft c.requires.sound c.in_ok-draft.ensures.sound)

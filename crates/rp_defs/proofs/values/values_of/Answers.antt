@@ -27,18 +27,21 @@ loop-key-preserved c =
     let pushed = pushed_ok c.push.result _ (sym c.is_err.ensures.value ∙ c.if-is_err.false) c.push.ensures.ok in record {
       so_far = values_more (value_at c.args.arch c.args.file.now c.args.counting.now) c.loop-key.key c.loop-key.values c.in_ok-value.value
           c.loop-key.invariant.so_far c.in_ok-value.ensures.answer ∙ ap Ok (sym pushed);
-      bounded = All-same IsGood _ _ pushed (All-push IsGood c.loop-key.values c.in_ok-value.value c.loop-key.invariant.bounded c.in_ok-value.ensures.bounded);
+      bounded = All-same IsGood _ _ pushed
+          (All-push IsGood c.loop-key.values c.in_ok-value.value c.loop-key.invariant.bounded c.in_ok-value.ensures.bounded);
     }
 
 pub returns-in_err-value-clause-answer : goal.returns-in_err-value-clause-answer
 unfolding values_of
 returns-in_err-value-clause-answer c =
     let p = err_from_is_err_and c.from_residual.result c.from_residual.ensures.1 in
-    rw (p.1, p.2) (values_faulty (value_at c.args.arch c.args.file.now c.args.counting.now) 26 c.loop-key.key c.loop-key.values _ (omega arith)
+    rw (p.1, p.2) (values_faulty (value_at c.args.arch c.args.file.now c.args.counting.now) 26 c.loop-key.key c.loop-key.values _
+    (omega arith)
     c.loop-key.invariant.so_far c.in_err-value.ensures.answer)
 
 pub returns-clause-answer : goal.returns-clause-answer
 unfolding values_of
 returns-clause-answer c =
     let all : c.loop-key.key ≡ 26 = omega arith in
-    inl (sym c.loop-key.invariant.so_far ∙ ap (λ n. each (value_at c.args.arch c.args.file.now c.args.counting.now) (range_with_len 0 n)) all)
+    inl (sym c.loop-key.invariant.so_far
+    ∙ ap (λ n. each (value_at c.args.arch c.args.file.now c.args.counting.now) (range_with_len 0 n)) all)
