@@ -1,5 +1,6 @@
 -- Which files of the folders are definition pieces, and in which order (repart.d(5), systemd.unit(5) on drop-ins).
-use Rattle.std.specs.Prelude.{ℕ, List, [], ◌∷◌, ◌++◌, Bool, ◌&&◌, not, if◌then◌else◌, ◌==◌, nat_lt, nat_eq, Option, Some, None, Result, Ok, Err, codes, filter, find, flat_map, length, map, sum_by, ◌+◌, ◌≤◌, All}
+use Rattle.std.specs.Prelude.{ℕ, List, [], ◌∷◌, ◌++◌, Bool, ◌&&◌, not, if◌then◌else◌, ◌==◌, nat_lt, nat_eq, Option, Some, None, Result, Ok}
+use Rattle.std.specs.Prelude.{Err, codes, filter, find, flat_map, length, map, sum_by, ◌+◌, ◌≤◌, All}
 use Rattle.std.specs.List.{starts_with, ends_with}
 use Rattle.std.specs.Option.{unwrap_or}
 use Rattle.std.specs.Ordering.{nat_cmp}

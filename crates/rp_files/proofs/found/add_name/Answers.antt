@@ -11,6 +11,7 @@ returns-then-contains_key-clause-found c = λ earlier was.
 pub returns-clause-found : goal.returns-clause-found
 returns-clause-found c = λ earlier was.
     ap found_of c.in_ok-insert.ensures.entries
-    ∙ added earlier c.args.found.now.entries c.args.folder.now c.args.name.now c.in_ok-key.key c.in_ok-path.path was (sym c.is_candidate.ensures ∙ c.if-not-is_candidate.false)
+    ∙ added earlier c.args.found.now.entries c.args.folder.now c.args.name.now c.in_ok-key.key c.in_ok-path.path was
+    (sym c.is_candidate.ensures ∙ c.if-not-is_candidate.false)
     (sym (lookup-found_of c.args.name.now c.args.found.now.entries) ∙ sym c.contains_key.ensures ∙ c.if-contains_key.false)
     c.in_ok-key.ensures.ok c.in_ok-path.ensures

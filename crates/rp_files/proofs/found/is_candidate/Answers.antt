@@ -4,4 +4,6 @@ use Rattle.rp_files.proofs.FoundLemmas.{no_conf}
 use Rattle.rp_files.proofs.found.is_candidate.Goals as goal
 
 pub returns-else-ends_with : goal.returns-else-ends_with
-returns-else-ends_with c = no_conf c.args.name.now c.ends_with.result (ends_text c.ends_with.result (codes ".conf") c.args.name.now c.ends_with.ensures.cases) c.if-ends_with.false
+returns-else-ends_with c =
+    no_conf c.args.name.now c.ends_with.result
+    (ends_text c.ends_with.result (codes ".conf") c.args.name.now c.ends_with.ensures.cases) c.if-ends_with.false
