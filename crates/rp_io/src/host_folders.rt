@@ -85,7 +85,7 @@ fn list_folder<R: Files>(rt: &R, alloc: Global, dir: &str) -> Result<Option<List
 }
 
 // All that is left of a folder's names.
-fn read_listing<D: Read>(alloc: Global, folder: &mut D) -> Result<Vec<u8>, IoFault>
+pub(crate) fn read_listing<D: Read>(alloc: Global, folder: &mut D) -> Result<Vec<u8>, IoFault>
     ensures { IfOk result (λ listing. IfSome (D.remaining folder.old) (λ left. listing.items ≡ left)) }
 {
     let mut listing = Vec::new(alloc);
@@ -114,7 +114,7 @@ fn read_more<D: Read>(folder: &mut D, listing: &mut Vec<u8>) -> Result<bool, IoF
 }
 
 // The names in a listing, `.` and `..` left out.
-fn names_in(alloc: Global, listing: &[u8]) -> Result<Vec<&str>, IoFault>
+pub(crate) fn names_in(alloc: Global, listing: &[u8]) -> Result<Vec<&str>, IoFault>
     ensures { IfOk result (λ names. map (λ name. name.now) names.items ≡ host.entries listing.now) }
 {
     let names = entries(alloc, listing_text(listing)?)?;

@@ -1,7 +1,10 @@
-//! What no clause says of the host's forms: the calls themselves, on real files and on a host whose answers are chosen.
-use crate::fake::FakeHost;
+//! What no clause says of the host's forms: the calls themselves, on real files, and on a folder and an output whose
+//! answers are chosen.
+use crate::fake::{FakeNames, FakeOutput};
+use crate::host_folders::{names_in, read_listing};
 use crate::{Content, Folders, HostFolders, HostSink, HostSources, IoFault, Sink, Sources};
 use rp_base::{Failed, List, Text};
+use std::alloc::Global;
 use std::cell::Cell;
 use std::io::ErrorKind;
 use std::os::fd::AsRawFd;
@@ -121,71 +124,60 @@ fn a_source_stays_the_same_file(rt: HostRuntime) -> Result<(), Fail> {
     Ok(())
 }
 
-fn host(
+// How many names a folder has, each of whose reads gives these, with this error behind them.
+fn count_of(
+    alloc: Global,
     names: &'static [u8],
     reads: usize,
     last: Option<ErrorKind>,
-    look: Option<ErrorKind>,
-) -> FakeHost {
-    FakeHost {
+) -> Result<usize, IoFault> {
+    let mut folder = FakeNames {
         names,
         reads,
         last,
-        look,
-        refusal: None,
-        written: Cell::new(0),
-    }
+        is_new: true,
+    };
+    let listing = read_listing(alloc, &mut folder)?;
+    Ok(names_in(alloc, &listing)?.len())
 }
 
 #[test]
-fn listings_that_a_host_gives(rt: HostRuntime) -> Result<(), Fail> {
-    // How many names are listed, or the fault.
-    let rows = [
-        (host(b"a\0.\0..\0b\0", 1, None, None), Ok(2)),
-        (host(b"a\0b\0", 32_768, None, None), Ok(65_536)),
-        (host(b"a\0b\0c\0", 21_846, None, None), Err(IoFault::Failed)),
-        (host(b"a\0\xff\0", 1, None, None), Err(IoFault::Failed)),
+fn reads_of_a_folder(rt: HostRuntime) -> Result<(), Fail> {
+    let rows: [(
+        &'static [u8],
+        usize,
+        Option<ErrorKind>,
+        Result<usize, IoFault>,
+    ); 5] = [
+        (b"a\0.\0..\0b\0", 1, None, Ok(2)),
+        (b"a\0b\0", 32_768, None, Ok(65_536)),
+        (b"a\0b\0c\0", 21_846, None, Err(IoFault::Failed)),
+        (b"a\0", 1, Some(ErrorKind::Other), Err(IoFault::Failed)),
         (
-            host(b"a\0", 1, Some(ErrorKind::Other), None),
-            Err(IoFault::Failed),
-        ),
-        (
-            host(b"a\0", 1, Some(ErrorKind::OutOfMemory), None),
-            Err(IoFault::Memory),
-        ),
-        (host(b"a\0", 1, None, Some(ErrorKind::NotFound)), Ok(0)),
-        (
-            host(b"a\0", 1, None, Some(ErrorKind::PermissionDenied)),
-            Err(IoFault::Failed),
-        ),
-        (
-            host(b"a\0", 1, None, Some(ErrorKind::OutOfMemory)),
+            b"a\0",
+            1,
+            Some(ErrorKind::OutOfMemory),
             Err(IoFault::Memory),
         ),
     ];
-    for (host, want) in &rows {
-        let mut folders = HostFolders::new(host);
-        let count = match folders.list(rt.alloc(), "folder") {
-            Ok(names) => Ok(names.ok_or("there")?.len()),
-            Err(fault) => Err(fault),
-        };
-        assert!(rt; count == *want);
-        assert_eq!(rt; folders.faults() == 1, *want == Err(IoFault::Failed));
+    for (names, reads, last, want) in rows {
+        assert!(rt; count_of(rt.alloc(), names, reads, last) == want);
     }
     Ok(())
 }
 
 #[test]
 fn a_piece_is_written_once(rt: HostRuntime) -> Result<(), Fail> {
-    let mut host = host(b"", 0, None, None);
-    let mut sink = HostSink::new(&host);
-    sink.write(b"four")?;
-    assert_eq!(rt; host.written.get(), 4);
-    assert_eq!(rt; sink.faults(), 0);
-    host.refusal = Some(ErrorKind::Interrupted);
-    let mut sink = HostSink::new(&host);
-    assert_eq!(rt; sink.write(b"four"), Err(Failed));
-    assert_eq!(rt; host.written.get(), 7);
-    assert_eq!(rt; sink.faults(), 1);
+    for (refusal, answer, written) in [
+        (None, Ok(()), 4),
+        (Some(ErrorKind::Interrupted), Err(Failed), 3),
+    ] {
+        let host = FakeOutput {
+            refusal,
+            written: Cell::new(0),
+        };
+        assert_eq!(rt; HostSink::new(&host).write(b"four"), answer);
+        assert_eq!(rt; host.written.get(), written);
+    }
     Ok(())
 }
