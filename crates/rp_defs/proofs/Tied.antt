@@ -10,13 +10,13 @@ use Rattle.rp_defs.specs.declared.definition.Definitions.{Definitions}
 use Rattle.rp_defs.specs.declared.draft.Draft.{Draft}
 use Rattle.rp_defs.specs.declared.fault.DefFault.{DefFault}
 use Rattle.rp_defs.specs.Answers.{after, each}
-use Rattle.rp_defs.specs.Drafts.{Drafted, drafted, drafted_group, drafted_records, draft_of}
+use Rattle.rp_defs.specs.Drafts.{Drafted, drafted_group, drafted_records, draft_of}
 use Rattle.rp_defs.specs.Halves.{paired}
 use Rattle.rp_defs.specs.Kept.{counting_of, all_keyed}
 use Rattle.rp_defs.specs.Pairs.{paired as paired_drafts}
 use Rattle.rp_defs.specs.Records.{records}
 use Rattle.rp_defs.specs.Settings.{read_pieces, all_placed, all_ignored, groups_of}
-use Rattle.rp_defs.specs.Stated.{Stated, stated_by, stated_in, stated}
+use Rattle.rp_defs.specs.Stated.{Stated, stated_by, stated}
 use Rattle.rp_defs.proofs.TiedValues.{all_kept}
 use Rattle.rp_defs.proofs.TiedDraft.{draft_kept, ok_map, draft_said}
 use Rattle.rp_defs.proofs.TiedPairs.{paired_is}

@@ -1,7 +1,7 @@
 -- The draft of a definition is what its assignments state.
-use Rattle.std.proofs.Common.{◌≡◌, ℕ, ℤ, ◌+◌, List, [], ◌∷◌, Bool, true, false, cond, Option, Some, None, Result, Ok, Err, map, refl, ap}
+use Rattle.std.proofs.Common.{◌≡◌, ℕ, ℤ, List, ◌∷◌, Bool, true, false, cond, Option, Some, None, Result, Ok, Err, map, refl, ap}
 use Rattle.std.proofs.Common.{sym, ◌∙◌}
-use Rattle.std.specs.Prelude.{codes, option_map, unwrap_or, pos, slice_index_or}
+use Rattle.std.specs.Prelude.{codes, option_map, unwrap_or, pos}
 use Rattle.std.specs.List.{range_with_len}
 use Rattle.std.specs.Option.{option_and_then}
 use Rattle.rp_base.specs.declared.guid.Guid.{Guid}
@@ -16,8 +16,7 @@ use Rattle.rp_defs.specs.declared.setting.Setting.{Setting}
 use Rattle.rp_defs.specs.declared.value.Value.{Value}
 use Rattle.rp_defs.specs.declared.value.Value.TheVariants as value
 use Rattle.rp_defs.specs.Answers.{after, each}
-use Rattle.rp_defs.specs.Attributes.{bit_of}
-use Rattle.rp_defs.specs.Drafts.{want_of, attrs_of, draft_from, draft_of, half_said as half_of_values, priority_said as priority_of_values}
+use Rattle.rp_defs.specs.Drafts.{want_of, attrs_of, draft_from, draft_of, half_said as half_of_values}
 use Rattle.rp_defs.specs.Drafts.{within_limits as draft_within}
 use Rattle.rp_defs.specs.Faults.{whole_fault}
 use Rattle.rp_defs.specs.Kept.{counting_of, counting as kept_counting}
@@ -28,7 +27,7 @@ use Rattle.rp_defs.specs.Said.{Half, Off, Data, Hash, Said, kind_said, id_said, 
 use Rattle.rp_defs.specs.Said.{switch_said, path_said, half_said, match_said, split_said, refused_said, off_said}
 use Rattle.rp_defs.specs.Settings.{Placed, counting}
 use Rattle.rp_defs.specs.Stated.{Stated, says, said_of, required, stated_by, within_limits, want_said, attrs_said}
-use Rattle.rp_defs.specs.Value.{id_in, label_in, priority_in, weight_in, size_in, half_in, switch_in, text_in, id_of, label_of, priority_of}
+use Rattle.rp_defs.specs.Value.{id_in, label_in, priority_in, weight_in, size_in, switch_in, text_in, id_of, label_of, priority_of}
 use Rattle.rp_defs.specs.Value.{weight_of, size_of, half_of, switch_of, text_of}
 use Rattle.rp_defs.specs.Values.{kept_as, read_at, half_kept, value_at, values_of, value_of, type_of, read_set}
 use Rattle.rp_defs.proofs.TiedValues.{setting_kept, keyed_kept, counting_kept, read_kept, said_back}

@@ -1,5 +1,5 @@
 -- The pairs of drafts are those of what is stated.
-use Rattle.std.proofs.Common.{◌≡◌, ℕ, ℤ, ◌+◌, List, [], ◌∷◌, Bool, true, false, ◌&&◌, ◌==◌, cond, not, Option, Some, None, Ok, map, refl}
+use Rattle.std.proofs.Common.{◌≡◌, ℕ, ◌+◌, List, [], ◌∷◌, Bool, false, ◌&&◌, ◌==◌, cond, not, Option, Some, None, Ok, map, refl}
 use Rattle.std.proofs.Common.{ap, sym, ◌∙◌}
 use Rattle.std.specs.Prelude.{count_by, find, option_map, slice_get}
 use Rattle.std.specs.List.{position_or_len}
@@ -11,7 +11,7 @@ use Rattle.rp_types.proofs.Finding.{find-map}
 use Rattle.rp_defs.specs.declared.definition.Definition.{Definition}
 use Rattle.rp_defs.specs.declared.definition.Verity.TheVariants as verity
 use Rattle.rp_defs.specs.declared.draft.Draft.{Draft}
-use Rattle.rp_defs.specs.Halves.{same_half, is_half, is_pair, has_pair, is_joined, place_of, shared_priority, joined, unless_alone, paired}
+use Rattle.rp_defs.specs.Halves.{same_half, is_half, is_pair, is_joined, place_of, shared_priority, joined, unless_alone, paired}
 use Rattle.rp_defs.specs.Pairs as kept
 use Rattle.rp_defs.specs.Partner.{greater, with_partner}
 use Rattle.rp_defs.specs.Said.{Half, Off, Data, Hash}

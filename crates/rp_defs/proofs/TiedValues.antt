@@ -1,8 +1,7 @@
 -- The values of keys as the code keeps them are what the keys say.
-use Rattle.std.proofs.Common.{◌≡◌, ℕ, ℤ, List, [], ◌∷◌, ◌++◌, Bool, true, false, cond, Option, Some, None, Result, Ok, Err, map, refl, ap}
+use Rattle.std.proofs.Common.{◌≡◌, ℕ, List, [], ◌∷◌, ◌++◌, Bool, true, false, cond, Option, Some, None, Ok, Err, map, refl, ap}
 use Rattle.std.proofs.Common.{sym, ◌∙◌}
-use Rattle.std.specs.Prelude.{find, reverse, option_map, unwrap_or}
-use Rattle.std.specs.List.{flat_map}
+use Rattle.std.specs.Prelude.{find, reverse, option_map}
 use Rattle.std.specs.Option.{option_and_then}
 use Rattle.std.specs.Str.{bytes_eq}
 use Rattle.std.proofs.lemmas.List.{map-append, reverse-append}
@@ -10,14 +9,12 @@ use Rattle.rp_types.proofs.Finding.{find-map}
 use Rattle.rp_ini.specs.Lines.{Section, assigns_of}
 use Rattle.rp_ini.specs.declared.assign.Assign.{Assign}
 use Rattle.rp_files.specs.declared.piece.Piece.{Piece}
-use Rattle.rp_types.specs.declared.arch.Arch.{Arch}
-use Rattle.rp_defs.specs.declared.fault.DefFault.{DefFault}
 use Rattle.rp_defs.specs.declared.setting.Setting.{Setting}
 use Rattle.rp_defs.specs.declared.value.Value.{Value}
 use Rattle.rp_defs.specs.Kept as kept
 use Rattle.rp_defs.specs.Settings.{Placed, placed_in, counting, unless_empty, partition, all_placed}
 use Rattle.rp_defs.specs.Said.{Said}
-use Rattle.rp_defs.specs.Stated.{said_at, said_of}
+use Rattle.rp_defs.specs.Stated.{said_at}
 use Rattle.rp_defs.specs.Values.{kept_as, read_at}
 
 -- an assignment as the code keeps it

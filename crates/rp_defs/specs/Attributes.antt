@@ -1,9 +1,8 @@
 -- The attribute bits of a new partition (Discoverable Partitions Specification, partition flags).
-use Rattle.std.specs.Prelude.{ℕ, List, [], ◌∷◌, Bool, true, false, if◌then◌else◌, bit_and}
+use Rattle.std.specs.Prelude.{ℕ, [], ◌∷◌, Bool, true, false, if◌then◌else◌, bit_and}
 use Rattle.std.specs.List.{list_any}
 use Rattle.std.specs.Option.{option_map_or}
 use Rattle.rp_base.specs.declared.guid.Guid.{Guid}
-use Rattle.rp_types.specs.declared.arch.Arch.{Arch}
 use Rattle.rp_types.specs.declared.arch.Arch.TheVariants.{X86_64, Arm64}
 use Rattle.rp_types.specs.declared.arch.Designator.{Designator}
 use Rattle.rp_types.specs.declared.arch.Designator.TheVariants as designators

@@ -1,5 +1,5 @@
 -- What the pieces of a definition set, as the code keeps it: of each key the setting that counts.
-use Rattle.std.specs.Prelude.{ℕ, ◌≢◌, List, [], ◌∷◌, ◌==◌, if◌then◌else◌, Option, Some, None, IfSome, find, length, map, reverse}
+use Rattle.std.specs.Prelude.{ℕ, ◌≢◌, List, [], ◌==◌, if◌then◌else◌, Option, Some, None, IfSome, find, length, map, reverse}
 use Rattle.std.specs.List.{flat_map}
 use Rattle.std.specs.Option.{option_and_then}
 use Rattle.std.specs.Str.{bytes_eq}

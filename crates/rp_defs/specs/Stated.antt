@@ -1,5 +1,5 @@
 -- What one definition says (repart.d(5)): its record, from the assignments of its main file and drop-ins.
-use Rattle.std.specs.Prelude.{ℕ, ℤ, ◌+◌, min, max, pos, List, [], ◌∷◌, Bool, false, ◌==◌, if◌then◌else◌, Option, None, Some, Result, Ok}
+use Rattle.std.specs.Prelude.{ℕ, ◌+◌, min, max, pos, List, [], ◌∷◌, Bool, false, ◌==◌, if◌then◌else◌, Option, None, Some, Result, Ok}
 use Rattle.std.specs.Prelude.{Err, unwrap_or, codes}
 use Rattle.rp_base.specs.declared.guid.Guid.{Guid}
 use Rattle.rp_base.specs.declared.want.Want.{Want}
@@ -9,7 +9,6 @@ use Rattle.rp_files.specs.declared.piece.Piece.{Piece}
 use Rattle.rp_defs.specs.declared.definition.Definition.{Definition}
 use Rattle.rp_defs.specs.declared.definition.Verity.TheVariants as verity
 use Rattle.rp_defs.specs.declared.fault.DefFault.{DefFault}
-use Rattle.rp_defs.specs.declared.fault.DefKind.{DefKind}
 use Rattle.rp_defs.specs.declared.fault.DefKind.TheVariants.{Limits, NoType}
 use Rattle.rp_defs.specs.Answers.{after}
 use Rattle.rp_defs.specs.Attributes.{is_hash_type, bit_of}
