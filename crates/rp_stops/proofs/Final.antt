@@ -54,7 +54,7 @@ same_mbr sector sectors = by_type (is_some (foreign_type sector)) where
   by_type true e = cc
   by_type false e = by_bytes (bytes_eq (slice_range sector 446 512) (mbr_bytes sectors)) refl e
 
-mbr_range : (image : List ℕ) → slice_range (take 512 image) 446 512 ≡ bytes_at image 446 66
+pub mbr_range : (image : List ℕ) → slice_range (take 512 image) 446 512 ≡ bytes_at image 446 66
 mbr_range image = ap (take 66) (drop-take 446 66 image) ∙ take-take 66 66 (drop 446 image) (omega arith)
 
 -- a write inside a row misses a byte that isn't the row's
@@ -116,7 +116,7 @@ module _ (old : List ℕ) (seen : Seen) (plan : Plan) (g : Given old seen plan) 
       ∙ sym (all_done-flat (grown old plan) (contents_blocks body ++ (copies plan are.order ++ are.mbr)))
 
   -- a byte that all calls behind the growth miss
-  missed_byte : (k : ℕ) → EachBlock (Misses k) (contents_blocks body ++ (copies plan are.order ++ are.mbr))
+  pub missed_byte : (k : ℕ) → EachBlock (Misses k) (contents_blocks body ++ (copies plan are.order ++ are.mbr))
       → get_or (all_done old calls) k 0 ≡ get_or (grown old plan) k 0
   missed_byte k misses =
       ap (λ (xs : List ℕ). get_or xs k 0) all_behind
@@ -150,6 +150,22 @@ module _ (old : List ℕ) (seen : Seen) (plan : Plan) (g : Given old seen plan) 
   pub done : IsDone old seen plan g body calls are (all_done old calls)
   done = all_done-done old seen plan g body calls are
 
+  -- the bytes before the primary are in no place and in no new row
+  pub low_places : (k : ℕ) → k < 512 → (which : Which) → (k < copy_offset plan which) ⊎ (copy_offset plan which + copy_length plan ≤ k)
+  low_places k low Primary = let large = sector_least plan.goal.sector g.is_sector in inl (omega arith)
+  low_places k low Backup =
+      let large = sector_least plan.goal.sector g.is_sector in
+      let middle = (order old seen plan g).middle in
+      inl (omega arith)
+
+  pub low_rows : (k : ℕ) → k < 512 → All (λ noted. noted.1.change ≡ changes.New → IsByteOf noted.0 k → ⊥) (noted_of plan)
+  low_rows k low i d lt new byte =
+      let bounds = rows_between old seen plan g i d lt in
+      let from = bounds.0 in
+      let here = byte.0 in
+      let large = sector_least plan.goal.sector g.is_sector in
+      omega arith
+
   mbr_still : seen.mbr ≡ mbrs.Same → Still old seen plan g → are.mbr ≡ []
       → bytes_at (all_done old calls) 446 66 ≡ mbr_bytes (target_sectors plan)
   mbr_still same still none =
@@ -167,26 +183,13 @@ module _ (old : List ℕ) (seen : Seen) (plan : Plan) (g : Given old seen plan) 
       ∙ ap (λ i. bytes_at i 446 66) (still_grown old seen plan g still)
       ∙ sym (mbr_range old) ∙ same_mbr (take 512 old) (sectors_of plan.goal.sector old) (sym g.seen_of.mbr ∙ same) ∙ ap mbr_bytes sectors
     where
-      places : (k : ℕ) → k < 512 → (which : Which) → (k < copy_offset plan which) ⊎ (copy_offset plan which + copy_length plan ≤ k)
-      places k low Primary = let large = sector_least plan.goal.sector g.is_sector in inl (omega arith)
-      places k low Backup = let large = sector_least plan.goal.sector g.is_sector in let middle = (order old seen plan g).middle in inl
-          (omega arith)
-
-      rows : (k : ℕ) → k < 512 → All (λ noted. noted.1.change ≡ changes.New → IsByteOf noted.0 k → ⊥) (noted_of plan)
-      rows k low i d lt new byte =
-          let bounds = rows_between old seen plan g i d lt in
-          let from = bounds.0 in
-          let here = byte.0 in
-          let large = sector_least plan.goal.sector g.is_sector in
-          omega arith
-
       low_misses : (k : ℕ) → k < 512 → EachBlock (Misses k) (contents_blocks body ++ (copies plan are.order ++ are.mbr))
       low_misses k low =
-          each_behind (Misses k) plan body are.order are.mbr (each_body (Misses k) (body_outside k (rows k low)) body are.inside)
-          (place_outside k (places k low))
+          each_behind (Misses k) plan body are.order are.mbr (each_body (Misses k) (body_outside k (low_rows k low)) body are.inside)
+          (place_outside k (low_places k low))
           (subst (EachBlock (Misses k)) (sym none) tt)
 
-  mbr_final : seen.mbr ≢ mbrs.Foreign → (blocks : List (List Call)) → IsMbrPart seen plan blocks → are.mbr ≡ blocks
+  pub mbr_final : seen.mbr ≢ mbrs.Foreign → (blocks : List (List Call)) → IsMbrPart seen plan blocks → are.mbr ≡ blocks
       → bytes_at (all_done old calls) 446 66 ≡ mbr_bytes (target_sectors plan)
   mbr_final other blocks (written foreign is) same =
       let before = blocks_done (all_done (grown old plan) body) (copies plan are.order) in

@@ -23,3 +23,4 @@ pub mod Fronts
 pub mod OneFinal
 pub mod Wrong
 mod Computed
+pub mod After

@@ -7,3 +7,4 @@ pub mod Safe
 pub mod Plans
 pub mod Final
 pub mod Wrong
+pub mod After

@@ -1,6 +1,6 @@
 //! Laws of stops, as contracts of functions that do nothing.
 
-ghost use Rattle.std.specs.Prelude.{◌≡◌, ◌++◌, ◌≤◌, ◌*◌, ℕ, List, [], ◌∷◌, length, replicate};
+ghost use Rattle.std.specs.Prelude.{◌≡◌, ◌≢◌, ◌++◌, ◌≤◌, ◌*◌, ℕ, List, [], ◌∷◌, length, replicate, Ok};
 ghost use Rattle.rp_base.specs.Image.{bytes_at};
 ghost use Rattle.rp_base.specs.declared.geometry.Which.{Which};
 ghost use Rattle.rp_base.specs.declared.plan.Plan.{Plan};
@@ -9,8 +9,9 @@ ghost use Rattle.rp_disk.specs.Calls.{all_done};
 ghost use Rattle.rp_disk.specs.declared.call.Call.{Call};
 ghost use Rattle.rp_disk.specs.Stops.{IsFrontOf, Leaves};
 ghost use Rattle.rp_gpt.specs.Accepted.{HoldsTable};
-ghost use Rattle.rp_gpt.specs.Shown.{shown, shows, told_at};
+ghost use Rattle.rp_gpt.specs.Shown.{accepted, shown, shows, told_at};
 ghost use Rattle.rp_gpt.specs.declared.table_fault.Empty.{Empty};
+ghost use Rattle.rp_stops.specs.After.{seen_after};
 ghost use Rattle.rp_stops.specs.Final.{ChangesItsOwn, IsFinal};
 ghost use Rattle.rp_stops.specs.Honest.{IsTornHonest};
 ghost use Rattle.rp_stops.specs.Order.{AreCallsOf, close_call, header_call, header_offset, target_sectors};
@@ -64,6 +65,14 @@ pub fn finished_law()
         → IsPlanFor sector old empty seen plan → AreCallsOf seen plan body calls → shown sector (all_done old calls) ≡ shows plan.goal }
     ensures table { (sector : ℕ) (old : List ℕ) (empty : Empty) (seen : Seen) (plan : Plan) (body calls : List Call)
         → IsPlanFor sector old empty seen plan → AreCallsOf seen plan body calls → plan.goal.first ≤ plan.goal.last → HoldsTable (all_done old calls) plan.goal }
+{}
+
+/// Where the goal has usable units, the final image is accepted, as the goal by its primary, with both copies the same and a right
+/// MBR, unless that is of another table.
+pub fn finished_is_accepted()
+    ensures { (sector : ℕ) (old : List ℕ) (empty then : Empty) (seen : Seen) (plan : Plan) (body calls : List Call)
+        → IsPlanFor sector old empty seen plan → AreCallsOf seen plan body calls → plan.goal.first ≤ plan.goal.last → then ≢ Empty.Require
+        → accepted sector (all_done old calls) then ≡ Ok (seen_after seen plan) }
 {}
 
 /// There is one final image.
