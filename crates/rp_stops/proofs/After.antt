@@ -36,7 +36,8 @@ as_seen plan units mbr = Ok (record {
   mbr = mbr;
 })
 
-module _ (old : List ℕ) (seen : Seen) (plan : Plan) (g : Given old seen plan) (body calls : List Call) (are : AreCallsOf seen plan body calls) where
+module _ (old : List ℕ) (seen : Seen) (plan : Plan) (g : Given old seen plan) (body calls : List Call)
+    (are : AreCallsOf seen plan body calls) where
   final_sectors : sectors_of plan.goal.sector (all_done old calls) ≡ target_sectors plan
   final_sectors =
       sectors_are plan.goal.sector g.is_sector (all_done old calls) (target_sectors plan)
@@ -75,19 +76,23 @@ module _ (old : List ℕ) (seen : Seen) (plan : Plan) (g : Given old seen plan) 
       → mbr_state (take 512 (all_done old calls)) (sectors_of plan.goal.sector (all_done old calls)) ≡ mbrs.Same
   exact_mbr other =
       exact-same (take 512 (all_done old calls)) (sectors_of plan.goal.sector (all_done old calls))
-      (mbr_range (all_done old calls) ∙ mbr_final old seen plan g body calls are other are.mbr are.mbr_part refl ∙ ap mbr_bytes (sym final_sectors))
+      (mbr_range (all_done old calls) ∙ mbr_final old seen plan g body calls are other are.mbr are.mbr_part refl
+      ∙ ap mbr_bytes (sym final_sectors))
 
-  mbr_is : (state : Mbr) → seen.mbr ≡ state → mbr_state (take 512 (all_done old calls)) (sectors_of plan.goal.sector (all_done old calls)) ≡ mbr_after state
+  mbr_is : (state : Mbr) → seen.mbr ≡ state → mbr_state (take 512 (all_done old calls))
+      (sectors_of plan.goal.sector (all_done old calls)) ≡ mbr_after state
   mbr_is mbrs.Foreign is =
       ap (λ s. mbr_state s (sectors_of plan.goal.sector (all_done old calls))) (first_bytes is)
-      ∙ foreign-alone (take 512 old) (sectors_of plan.goal.sector old) (sectors_of plan.goal.sector (all_done old calls)) (sym g.seen_of.mbr ∙ is)
+      ∙ foreign-alone (take 512 old) (sectors_of plan.goal.sector old) (sectors_of plan.goal.sector (all_done old calls))
+      (sym g.seen_of.mbr ∙ is)
   mbr_is mbrs.Same is = exact_mbr (λ e. let f : mbrs.Same ≡ mbrs.Foreign = sym is ∙ e in cc)
   mbr_is mbrs.Differs is = exact_mbr (λ e. let f : mbrs.Differs ≡ mbrs.Foreign = sym is ∙ e in cc)
 
   pub accepted_after : plan.goal.first ≤ plan.goal.last → (empty : Empty) → empty ≢ Require
       → accepted plan.goal.sector (all_done old calls) empty ≡ Ok (seen_after seen plan)
   accepted_after bounds empty other =
-      let units : sectors_of 512 (all_done old calls) ≡ plan.target = ap (λ n. n / 512) (done old seen plan g body calls are).len ∙ omega arith in
+      let units : sectors_of 512 (all_done old calls) ≡ plan.target = ap (λ n. n / 512) (done old seen plan g body calls are).len
+      ∙ omega arith in
       exact-accepted (all_done old calls) plan.goal (holds_table old seen plan g body calls are bounds) g.fits.well_formed.writable
       (reads_back plan.goal g.fits.well_formed.writable g.table_fits) empty other
       ∙ ap₂ (as_seen plan) units (mbr_is seen.mbr refl)

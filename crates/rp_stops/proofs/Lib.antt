@@ -24,3 +24,4 @@ pub mod OneFinal
 pub mod Wrong
 mod Computed
 pub mod After
+pub mod Moments

@@ -22,7 +22,8 @@ pub record IsPlanFor (sector : ℕ) (old : List ℕ) (empty : Empty) (seen : See
 
 -- a stop while others write inside old rows: the old table or the goal is shown, the writes of others survive, and new rows
 -- hold their contents where the goal is shown and the writes into them give these
-pub record StopsWell (sector : ℕ) (old : List ℕ) (seen : Seen) (plan : Plan) (body : List Call) (events : List Event) (image : List ℕ) : Type 0 where
+pub record StopsWell (sector : ℕ) (old : List ℕ) (seen : Seen) (plan : Plan) (body : List Call) (events : List Event)
+    (image : List ℕ) : Type 0 where
   pub shows : ShowsEither sector old plan image
   pub survive : Survive old seen events image
   pub holds : (contents : Contents) → Fills old plan contents body → HoldsWhatItShows sector old plan contents image

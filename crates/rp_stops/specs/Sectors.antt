@@ -10,7 +10,8 @@ use Rattle.rp_disk.specs.Stops.{IsFrontOf}
 -- behind it, done whole
 abbrev pub IsAsAfterSome : List ℕ → List Call → List ℕ → ℕ → ℕ → Type 0
 IsAsAfterSome old calls image from count =
-    (more : List Call) × IsFrontOf more (pending calls) × (bytes_at image from count ≡ bytes_at (all_done (settled old calls) more) from count)
+    (more : List Call) × IsFrontOf more (pending calls)
+    × (bytes_at image from count ≡ bytes_at (all_done (settled old calls) more) from count)
 
 -- the call writes the byte
 abbrev pub Covers : ℕ → Call → Type 0

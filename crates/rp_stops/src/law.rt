@@ -1,11 +1,15 @@
 //! Laws of stops, as contracts of functions that do nothing.
 
-ghost use Rattle.std.specs.Prelude.{◌≡◌, ◌≢◌, ◌++◌, ◌≤◌, ◌*◌, ℕ, List, [], ◌∷◌, length, replicate, Ok};
+ghost use Rattle.std.specs.Prelude.{◌≡◌, ◌≢◌, ◌++◌, ◌⊎◌, ◌≤◌, ◌*◌, ℕ, List, [], ◌∷◌, length, replicate, Ok, Some};
 ghost use Rattle.rp_base.specs.Image.{bytes_at};
 ghost use Rattle.rp_base.specs.declared.geometry.Which.{Which};
 ghost use Rattle.rp_base.specs.declared.plan.Plan.{Plan};
 ghost use Rattle.rp_base.specs.declared.seen.Seen.{Seen};
 ghost use Rattle.rp_disk.specs.Calls.{all_done};
+ghost use Rattle.rp_disk.specs.History as history;
+ghost use Rattle.rp_disk.specs.History.{IsSettled, LeftSince, MayLeave, moment};
+ghost use Rattle.rp_disk.specs.Made.{Made, history_of};
+ghost use Rattle.rp_disk.specs.Runs.{AtAnyMoment, AtAnyMomentBehindSync};
 ghost use Rattle.rp_disk.specs.declared.call.Call.{Call};
 ghost use Rattle.rp_disk.specs.Stops.{IsFrontOf, Leaves};
 ghost use Rattle.rp_gpt.specs.Accepted.{HoldsTable};
@@ -52,6 +56,32 @@ pub fn stops_of_whole_sectors()
     ensures alone { (sector : ℕ) (old : List ℕ) (empty : Empty) (seen : Seen) (plan : Plan) (body calls made : List Call) (image : List ℕ)
         → IsPlanFor sector old empty seen plan → AreCallsOf seen plan body calls → IsFrontOf made calls
         → Leaves old made image → HasWholeSectors sector old made image → StopsAlone sector old seen plan body image }
+{}
+
+/// The law over a disk, at any moment of a function that makes the calls. Where nothing was pending at its start, each image that
+/// a stop since might have left is safe. Where it makes a sync first, from any start: the image could have been left at the
+/// start already, or it is safe.
+pub fn any_moment_is_safe()
+    ensures settled { (sector : ℕ) (bytes : List ℕ) (empty : Empty) (seen : Seen) (plan : Plan) (body calls : List Call) (old now : List Made)
+        → AtAnyMoment (Some bytes) old calls now → IsSettled (history_of bytes old)
+        → IsPlanFor sector (history.shown (history_of bytes old)) empty seen plan → AreCallsOf seen plan body calls
+        → (made : List Call) (image : List ℕ) → LeftSince (history_of bytes now) (moment (history_of bytes old)) made image
+        → IsTornHonest sector (history.shown (history_of bytes old)) made image → StopsAlone sector (history.shown (history_of bytes old)) seen plan body image }
+    ensures behind_sync { (sector : ℕ) (bytes : List ℕ) (empty : Empty) (seen : Seen) (plan : Plan) (body calls : List Call) (old now : List Made)
+        → AtAnyMomentBehindSync (Some bytes) old calls now → IsPlanFor sector (history.shown (history_of bytes old)) empty seen plan → AreCallsOf seen plan body calls
+        → (made : List Call) (image : List ℕ) → LeftSince (history_of bytes now) (moment (history_of bytes old)) made image
+        → MayLeave (history_of bytes old) image ⊎ ((more : List Call) × (made ≡ Call.Sync ∷ more)
+        × (IsTornHonest sector (history.shown (history_of bytes old)) more image → StopsAlone sector (history.shown (history_of bytes old)) seen plan body image)) }
+{}
+
+/// Two plans are carried out, one after the other: a stop is one in the first, or one in the second on the image that the first
+/// gave.
+pub fn stops_of_two_plans()
+    ensures { (sector : ℕ) (old : List ℕ) (empty then : Empty) (seen next : Seen) (plan second : Plan) (body calls other others made : List Call) (image : List ℕ)
+        → IsPlanFor sector old empty seen plan → AreCallsOf seen plan body calls
+        → IsPlanFor sector (all_done old calls) then next second → AreCallsOf next second other others
+        → IsFrontOf made (calls ++ others) → Leaves old made image → IsTornHonest sector old made image
+        → StopsAlone sector old seen plan body image ⊎ StopsAlone sector (all_done old calls) next second other image }
 {}
 
 /// All calls, done whole, give the final image. Each of its places tells the goal, and the image shows it; where the goal has
