@@ -1,6 +1,9 @@
 pub mod Causes
+pub mod Definitions
+pub mod Demands
 pub mod Device
 pub mod Output
 pub mod Refusals
 pub mod Statuses
+pub mod Store
 pub mod Words

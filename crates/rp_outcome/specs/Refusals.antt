@@ -25,6 +25,17 @@ words_refusal = record { status = exit.words; words = codes "words" ∷ [] }
 abbrev pub disk_refusal : Refusal
 disk_refusal = record { status = exit.disk; words = codes "disk" ∷ [] }
 
+-- those of folders and of sources that failed
+abbrev pub folder_refusal : Refusal
+folder_refusal = record { status = exit.files; words = codes "folder" ∷ [] }
+
+abbrev pub source_refusal : Refusal
+source_refusal = record { status = exit.files; words = codes "source" ∷ [] }
+
+-- that of an image that would grow and doesn't show its primary copy
+abbrev pub repair_refusal : Refusal
+repair_refusal = record { status = exit.image; words = codes "RepairFirst" ∷ [] }
+
 abbrev pub memory_refusal : Refusal
 memory_refusal = record { status = exit.memory; words = [] }
 

@@ -9,13 +9,25 @@ done = 0
 abbrev pub words : ℕ
 words = 2
 
+-- the definition files are no list of definitions
+abbrev pub definitions : ℕ
+definitions = 3
+
 -- the image isn't accepted
 abbrev pub image : ℕ
 image = 4
 
+-- what the definitions ask for can't be had
+abbrev pub demand : ℕ
+demand = 5
+
 -- the disk failed
 abbrev pub disk : ℕ
 disk = 7
+
+-- the folders or the sources failed
+abbrev pub files : ℕ
+files = 8
 
 -- the sink failed once all else was done
 abbrev pub sink : ℕ

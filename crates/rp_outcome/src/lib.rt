@@ -2,12 +2,16 @@
 //! takes no memory.
 #![tactic(auto)]
 
+mod definitions;
+mod demand;
 mod printing;
 mod refusal;
 mod status;
 mod table;
 
+pub use definitions::{def_refusal, load_refusal};
+pub use demand::demand_refusal;
 pub use printing::{finish, refuse};
 pub use refusal::Refusal;
-pub use status::{DISK, DONE, IMAGE, MEMORY, SINK, WORDS};
+pub use status::{DEFINITIONS, DEMAND, DISK, DONE, FILES, IMAGE, MEMORY, SINK, WORDS};
 pub use table::table_refusal;

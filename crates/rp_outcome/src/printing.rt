@@ -1,7 +1,7 @@
 ghost use Rattle.std.specs.Prelude.{◌++◌, ◌∷◌, [], OnErr, OnOk, codes};
 ghost use Rattle.std.specs.Fmt.{decimal};
 ghost use Rattle.rp_outcome.specs.Output.{Finishes, PrintsAll, PrintsPart, Refuses, output};
-ghost use Rattle.rp_outcome.specs.Words.{words_text};
+ghost use Rattle.rp_outcome.specs.Words.{line_text, piece_text, words_text};
 
 use crate::refusal::{MOST, Refusal, Word};
 use crate::status::{DONE, MEMORY, SINK};
@@ -71,7 +71,53 @@ fn print_word<K: Sink>(out: &mut K, word: &Word) -> Result<(), Failed>
             print(out, " ")?;
             print_number(out, number)
         }
+        Word::Piece(file, part) => {
+            print(out, " ")?;
+            print_piece(out, file, part)
+        }
+        Word::Line(file, part, line) => {
+            print(out, " ")?;
+            print_place(out, file, part, line)
+        }
     }
+}
+
+// Prints the name of a definition file, or of its drop-in of this name where there is one.
+#[tactic(auto, using(crate::proofs::Printed::then_all, crate::proofs::Printed::then_part, crate::proofs::Printed::part_more))]
+fn print_piece<K: Sink>(out: &mut K, file: &str, part: &str) -> Result<(), Failed>
+    ensures done { OnOk result (PrintsAll (output K.told K.faults out.old) (output K.told K.faults out.new) (piece_text file.now part.now)) }
+    ensures failed { OnErr result (PrintsPart (output K.told K.faults out.old) (output K.told K.faults out.new) (piece_text file.now part.now)) }
+{
+    if part.is_empty() {
+        print(out, file)
+    } else {
+        print_drop_in(out, file, part)
+    }
+}
+
+#[tactic(auto, using(crate::proofs::Printed::then_all, crate::proofs::Printed::then_part, crate::proofs::Printed::part_more))]
+fn print_drop_in<K: Sink>(out: &mut K, file: &str, part: &str) -> Result<(), Failed>
+    ensures done { OnOk result (PrintsAll (output K.told K.faults out.old) (output K.told K.faults out.new)
+        (file.now ++ codes ".d/" ++ part.now)) }
+    ensures failed { OnErr result (PrintsPart (output K.told K.faults out.old) (output K.told K.faults out.new)
+        (file.now ++ codes ".d/" ++ part.now)) }
+{
+    print(out, file)?;
+    print(out, ".d/")?;
+    print(out, part)
+}
+
+// Prints that name and the number of a line.
+#[tactic(auto, using(crate::proofs::Printed::then_all, crate::proofs::Printed::then_part, crate::proofs::Printed::part_more))]
+fn print_place<K: Sink>(out: &mut K, file: &str, part: &str, line: u32) -> Result<(), Failed>
+    ensures done { OnOk result (PrintsAll (output K.told K.faults out.old) (output K.told K.faults out.new)
+        (line_text file.now part.now line)) }
+    ensures failed { OnErr result (PrintsPart (output K.told K.faults out.old) (output K.told K.faults out.new)
+        (line_text file.now part.now line)) }
+{
+    print_piece(out, file, part)?;
+    print(out, ":")?;
+    print_number(out, u64::from(line))
 }
 
 fn print_number<K: Sink>(out: &mut K, number: u64) -> Result<(), Failed>

@@ -1,11 +1,11 @@
-ghost use Rattle.std.specs.Prelude.{◌≡◌};
-ghost use Rattle.rp_outcome.specs.Refusals.{disk_refusal, memory_refusal, words_refusal};
+ghost use Rattle.std.specs.Prelude.{◌≡◌, ◌∷◌, []};
+ghost use Rattle.rp_outcome.specs.Refusals.{disk_refusal, folder_refusal, memory_refusal, repair_refusal, source_refusal, words_refusal};
 
-use crate::status::{DISK, MEMORY, WORDS};
+use crate::status::{DISK, FILES, IMAGE, MEMORY, WORDS};
 use std::marker::Model;
 
 /// The most words behind the status on a line.
-pub const MOST: usize = 3;
+pub const MOST: usize = 4;
 
 /// A word of a line.
 #[derive(Clone, Copy, Debug)]
@@ -13,6 +13,10 @@ pub enum Word<'a> {
     Absent,
     Text(&'a str),
     Number(u64),
+    /// A definition file, or its drop-in of this name where there is one.
+    Piece(&'a str, &'a str),
+    /// A line of it.
+    Line(&'a str, &'a str, u32),
 }
 
 /// Why a command isn't done: an exit status, and the words that tell the cause. Seen as the status and the words' texts.
@@ -37,20 +41,35 @@ impl<'a> Refusal<'a> {
     pub fn words() -> Self
         ensures { result ≡ words_refusal }
     {
-        Refusal {
-            status: WORDS,
-            words: [Word::Text("words"), Word::Absent, Word::Absent],
-        }
+        Refusal::told(WORDS, "words")
     }
 
     /// Of a disk that failed.
     pub fn disk() -> Self
         ensures { result ≡ disk_refusal }
     {
-        Refusal {
-            status: DISK,
-            words: [Word::Text("disk"), Word::Absent, Word::Absent],
-        }
+        Refusal::told(DISK, "disk")
+    }
+
+    /// Of folders that failed.
+    pub fn folder() -> Self
+        ensures { result ≡ folder_refusal }
+    {
+        Refusal::told(FILES, "folder")
+    }
+
+    /// Of sources that failed.
+    pub fn source() -> Self
+        ensures { result ≡ source_refusal }
+    {
+        Refusal::told(FILES, "source")
+    }
+
+    /// Of an image that would grow and doesn't show its primary copy.
+    pub fn repair_first() -> Self
+        ensures { result ≡ repair_refusal }
+    {
+        Refusal::told(IMAGE, "RepairFirst")
     }
 
     /// Of want of memory.
@@ -60,6 +79,16 @@ impl<'a> Refusal<'a> {
         Refusal {
             status: MEMORY,
             words: [Word::Absent; MOST],
+        }
+    }
+
+    // With one word.
+    fn told(status: u8, word: &'a str) -> Self
+        ensures { result ≡ record { status = status; words = word.now ∷ [] } }
+    {
+        Refusal {
+            status,
+            words: [Word::Text(word), Word::Absent, Word::Absent, Word::Absent],
         }
     }
 }

@@ -13,23 +13,35 @@ pub fn table_refusal(fault: TableFault) -> Refusal<'static>
     let words = match fault {
         TableFault::Disk => return Refusal::disk(),
         TableFault::Memory => return Refusal::memory(),
-        TableFault::TooLong { len } => [Text("TooLong"), Number(len), Absent],
-        TableFault::TooShort { len } => [Text("TooShort"), Number(len), Absent],
-        TableFault::ArrayPlace => [Text("ArrayPlace"), Absent, Absent],
+        TableFault::TooLong { len } => [Text("TooLong"), Number(len), Absent, Absent],
+        TableFault::TooShort { len } => [Text("TooShort"), Number(len), Absent, Absent],
+        TableFault::ArrayPlace => [Text("ArrayPlace"), Absent, Absent, Absent],
         TableFault::EntryCount { count, size } => [
             Text("EntryCount"),
             Number(u64::from(count)),
             Number(u64::from(size)),
+            Absent,
         ],
-        TableFault::OtherTable { kind } => [Text("OtherTable"), Number(u64::from(kind)), Absent],
-        TableFault::NoTable => [Text("NoTable"), Absent, Absent],
-        TableFault::NotEmpty => [Text("NotEmpty"), Absent, Absent],
-        TableFault::Bounds { first, last } => [Text("Bounds"), Number(first), Number(last)],
-        TableFault::RowRange { slot } => [Text("RowRange"), Number(u64::from(slot)), Absent],
+        TableFault::OtherTable { kind } => [
+            Text("OtherTable"),
+            Number(u64::from(kind)),
+            Absent,
+            Absent,
+        ],
+        TableFault::NoTable => [Text("NoTable"), Absent, Absent, Absent],
+        TableFault::NotEmpty => [Text("NotEmpty"), Absent, Absent, Absent],
+        TableFault::Bounds { first, last } => [Text("Bounds"), Number(first), Number(last), Absent],
+        TableFault::RowRange { slot } => [
+            Text("RowRange"),
+            Number(u64::from(slot)),
+            Absent,
+            Absent,
+        ],
         TableFault::Overlap { a, b } => [
             Text("Overlap"),
             Number(u64::from(a)),
             Number(u64::from(b)),
+            Absent,
         ],
     };
     Refusal {

@@ -32,13 +32,17 @@ table_line origin sectors table = codes "table " ++ origin_text origin ++ codes 
     ++ codes " usable " ++ decimal table.first ++ codes "-" ++ decimal table.last
     ++ codes " disk " ++ guid_text table.disk ++ codes "\n"
 
--- the line of a row: its slot, its type, its sectors, its GUID, its attributes as 16 hexadecimal digits, and its name
-unfoldable pub row_line : Row → List ℕ
-row_line row = decimal row.slot ++ codes " " ++ kind_text row.kind
+-- a row behind its slot: its type, its sectors, its GUID, its attributes as 16 hexadecimal digits, and its name
+unfoldable pub facts_text : Row → List ℕ
+facts_text row = kind_text row.kind
     ++ codes " start " ++ decimal row.start ++ codes " size " ++ decimal row.size
     ++ codes " id " ++ guid_text row.id
     ++ codes " attrs " ++ encode_lower (to_be_bytes w64 row.attrs)
     ++ codes " name \"" ++ name_text row.name ++ codes "\"\n"
+
+-- the line of a row: its slot, and what it is
+unfoldable pub row_line : Row → List ℕ
+row_line row = decimal row.slot ++ codes " " ++ facts_text row
 
 -- a table's line, and behind it one line for each row in slot order
 unfoldable pub table_lines : Origin → ℕ → Table → List ℕ

@@ -71,7 +71,7 @@ fn row_value(alloc: Global, row: &Row) -> Result<Value, AllocError>
     Ok(Value::Object(members))
 }
 
-type Members = Map<String, Value>;
+pub type Members = Map<String, Value>;
 
 fn put_rows(members: &mut Members, alloc: Global, key: &str, rows: &[Row]) -> Result<(), AllocError>
     ensures { OnOk result (members_view members.new.entries
@@ -81,7 +81,7 @@ fn put_rows(members: &mut Members, alloc: Global, key: &str, rows: &[Row]) -> Re
     put(members, alloc, key, Value::Array(values))
 }
 
-fn put_bounds(
+pub fn put_bounds(
     members: &mut Members,
     alloc: Global,
     key: &str,
@@ -95,7 +95,12 @@ fn put_bounds(
     put(members, alloc, key, values)
 }
 
-fn put_guid(members: &mut Members, alloc: Global, key: &str, guid: Guid) -> Result<(), AllocError>
+pub fn put_guid(
+    members: &mut Members,
+    alloc: Global,
+    key: &str,
+    guid: Guid,
+) -> Result<(), AllocError>
     ensures { OnOk result (members_view members.new.entries
         ≡ with_member key.now (string (guid_text guid)) (members_view members.old.entries)) }
 {
@@ -104,7 +109,12 @@ fn put_guid(members: &mut Members, alloc: Global, key: &str, guid: Guid) -> Resu
     put(members, alloc, key, Value::String(text))
 }
 
-fn put_kind(members: &mut Members, alloc: Global, key: &str, kind: Guid) -> Result<(), AllocError>
+pub fn put_kind(
+    members: &mut Members,
+    alloc: Global,
+    key: &str,
+    kind: Guid,
+) -> Result<(), AllocError>
     ensures { OnOk result (members_view members.new.entries
         ≡ with_member key.now (string (kind_text kind)) (members_view members.old.entries)) }
 {
@@ -113,7 +123,12 @@ fn put_kind(members: &mut Members, alloc: Global, key: &str, kind: Guid) -> Resu
     put(members, alloc, key, Value::String(text))
 }
 
-fn put_name(members: &mut Members, alloc: Global, key: &str, name: &[u16]) -> Result<(), AllocError>
+pub fn put_name(
+    members: &mut Members,
+    alloc: Global,
+    key: &str,
+    name: &[u16],
+) -> Result<(), AllocError>
     ensures { OnOk result (members_view members.new.entries
         ≡ with_member key.now (string (name_text name.now)) (members_view members.old.entries)) }
 {
@@ -122,7 +137,12 @@ fn put_name(members: &mut Members, alloc: Global, key: &str, name: &[u16]) -> Re
     put(members, alloc, key, Value::String(text))
 }
 
-fn put_hex(members: &mut Members, alloc: Global, key: &str, number: u64) -> Result<(), AllocError>
+pub fn put_hex(
+    members: &mut Members,
+    alloc: Global,
+    key: &str,
+    number: u64,
+) -> Result<(), AllocError>
     ensures { OnOk result (members_view members.new.entries
         ≡ with_member key.now (string (encode_lower (to_be_bytes w64 number))) (members_view members.old.entries)) }
 {
@@ -131,7 +151,12 @@ fn put_hex(members: &mut Members, alloc: Global, key: &str, number: u64) -> Resu
     put(members, alloc, key, Value::String(text))
 }
 
-fn put_text(members: &mut Members, alloc: Global, key: &str, text: &str) -> Result<(), AllocError>
+pub fn put_text(
+    members: &mut Members,
+    alloc: Global,
+    key: &str,
+    text: &str,
+) -> Result<(), AllocError>
     ensures { OnOk result (members_view members.new.entries
         ≡ with_member key.now (string text.now) (members_view members.old.entries)) }
 {
@@ -139,7 +164,7 @@ fn put_text(members: &mut Members, alloc: Global, key: &str, text: &str) -> Resu
     put(members, alloc, key, Value::String(text))
 }
 
-fn put_number(
+pub fn put_number(
     members: &mut Members,
     alloc: Global,
     key: &str,

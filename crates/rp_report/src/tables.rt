@@ -1,6 +1,6 @@
 ghost use Rattle.std.specs.Prelude.{◌≡◌, ◌≢◌, ◌++◌, IfOk, OnOk, string_bytes};
 ghost use Rattle.rp_report.specs.Reports.{show_report};
-ghost use Rattle.rp_report.specs.Tables.{copies_line, mbr_word as mbr_word_of, origin_text, row_line, same_text, show_bytes};
+ghost use Rattle.rp_report.specs.Tables.{copies_line, facts_text, mbr_word as mbr_word_of, origin_text, row_line, same_text, show_bytes};
 ghost use Rattle.rp_report.specs.Tables.{table_line, table_lines};
 
 use crate::json::show_json_text;
@@ -122,6 +122,14 @@ fn push_row(text: &mut String, row: &Row) -> Result<(), AllocError>
     ensures { OnOk result (string_bytes text.new ≡ string_bytes text.old ++ row_line row.now) }
 {
     write!(text, "{} ", row.slot)?;
+    push_facts(text, row)
+}
+
+// Appends a row behind its slot.
+#[tactic(auto, unfolding(crate::specs::Tables::facts_text))]
+pub fn push_facts(text: &mut String, row: &Row) -> Result<(), AllocError>
+    ensures { OnOk result (string_bytes text.new ≡ string_bytes text.old ++ facts_text row.now) }
+{
     push_kind(text, row.kind)?;
     write!(text, " start {} size {} id ", row.start, row.size)?;
     push_guid(text, row.id)?;
