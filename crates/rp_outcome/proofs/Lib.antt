@@ -1,2 +1,1 @@
-mod Computed
 pub mod Printed

@@ -1,8 +1,7 @@
 -- What reading definitions answers, by where it ends.
-use Rattle.std.proofs.Common.{ℕ, ◌≡◌, ◌≤◌, ◌⊎◌, ◌∙◌, List, Option, Some, None, Result, Ok, Err, IfSome, refl, sym, ap, subst, inl, inr, arith}
+use Rattle.std.proofs.Common.{ℕ, ◌≡◌, ◌⊎◌, ◌∙◌, List, Option, Some, None, Result, Ok, Err, IfSome, refl, sym, ap, inl, inr, arith}
 use Rattle.rp_base.specs.Answers.{Gives}
-use Rattle.rp_base.specs.Faults.{Rose}
-use Rattle.rp_defs.specs.Faults.{IsKnown, no_memory}
+use Rattle.rp_defs.specs.Faults.{no_memory}
 use Rattle.rp_defs.specs.Records.{records}
 use Rattle.rp_defs.specs.WellFormed.{IsWellFormed}
 use Rattle.rp_defs.specs.declared.definition.Definitions.{Definitions}

@@ -1,5 +1,5 @@
 -- Definitions are read from folders.
-use Rattle.std.specs.Prelude.{ℕ, ◌≡◌, ◌⊎◌, List, Result, Ok, Err, IfOk, IfErr, IfSome, ⊤}
+use Rattle.std.specs.Prelude.{ℕ, ◌≡◌, ◌⊎◌, List, Result, IfOk, IfErr, IfSome, ⊤}
 use Rattle.rp_defs.specs.Faults.{IsKnown}
 use Rattle.rp_defs.specs.Records.{records}
 use Rattle.rp_defs.specs.WellFormed.{IsWellFormed}

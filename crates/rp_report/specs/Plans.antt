@@ -1,10 +1,8 @@
 -- What `plan` prints of a plan.
 use Rattle.std.specs.Prelude.{ℕ, List, [], ◌++◌, Bool, codes, if◌then◌else◌, Option, Some, None, slice_get}
 use Rattle.std.specs.Fmt.{decimal}
-use Rattle.std.specs.Int.{w64, to_be_bytes}
 use Rattle.std.specs.List.{flat_map}
 use Rattle.std.specs.Option.{option_map_or}
-use Rattle.hex.specs.Hex.{encode_lower}
 use Rattle.rp_base.specs.Plan.{Noted, noted_of}
 use Rattle.rp_base.specs.declared.plan.Change.{Change}
 use Rattle.rp_base.specs.declared.plan.Change.TheVariants.{New, Changed, Same}
@@ -13,7 +11,7 @@ use Rattle.rp_base.specs.declared.table.Table.{Table}
 use Rattle.rp_defs.specs.declared.definition.Definition.{Definition}
 use Rattle.rp_defs.specs.declared.definition.Definitions.{Definitions}
 use Rattle.rp_types.specs.Guids.{guid_text}
-use Rattle.rp_report.specs.Tables.{facts_text, kind_text}
+use Rattle.rp_report.specs.Tables.{facts_text}
 
 -- the name of the file of the definition at a place
 abbrev pub file_text : List Definition → ℕ → List ℕ

@@ -1,4 +1,3 @@
-use Rattle.std.proofs.Common.{arith}
 use Rattle.rp_report.proofs.NotedLemmas.{noted-more, noted-past}
 use Rattle.rp_report.proofs.TextLemmas.{written_more, written_all}
 use Rattle.rp_report.proofs.plan.push_noted_rows.Goals as goal

@@ -1,6 +1,4 @@
-use Rattle.std.proofs.Common.{◌∙◌, ap, arith, map, sym}
 use Rattle.serde_json.specs.View.{view}
-use Rattle.rp_report.specs.PlanJson.{noted_data}
 use Rattle.rp_report.proofs.NotedLemmas.{data-more, data-all}
 use Rattle.rp_report.proofs.plan_json.row_values.Goals as goal
 
