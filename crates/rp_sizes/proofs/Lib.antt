@@ -1,0 +1,4 @@
+mod Found
+pub mod AskedLemmas
+pub mod NewsLemmas
+pub mod Walks
