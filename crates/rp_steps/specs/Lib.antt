@@ -1,0 +1,5 @@
+pub mod Same
+pub mod Steps
+pub mod Writes
+pub mod Planned
+pub mod Done

@@ -1,0 +1,18 @@
+//! The journal of steps: what is done to an image, in which order, and how many writes that is.
+#![tactic(auto)]
+
+mod contents;
+mod copies;
+mod journal;
+mod law;
+mod same;
+mod step;
+mod writes;
+
+pub use journal::steps_of;
+pub use law::nothing_to_change_is_no_steps;
+pub use step::Step;
+pub use writes::writes_of;
+
+#[cfg(test)]
+mod tests;
