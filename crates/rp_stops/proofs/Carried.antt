@@ -13,9 +13,9 @@ use Rattle.rp_disk.specs.Stops.{Each, IsFrontOf, Leaves}
 use Rattle.rp_disk.proofs.Agreeing.{Each-left}
 use Rattle.rp_disk.proofs.Blocks.{Each-imp}
 use Rattle.rp_disk.proofs.Ranges.{same_bytes}
-use Rattle.rp_gpt.specs.Accepted.{IsSeen, IsSeenOf}
+use Rattle.rp_gpt.specs.Accepted.{IsSeenOf}
 use Rattle.rp_gpt.specs.declared.table_fault.Empty.{Empty}
-use Rattle.rp_gpt.proofs.Accepted.{accepted_seen}
+use Rattle.rp_stops.proofs.Accepting.{accepted-sized}
 use Rattle.rp_stops.specs.Honest.{IsTornHonest}
 use Rattle.rp_stops.specs.Order.{AreCallsOf, contents_blocks, copies, growth}
 use Rattle.rp_stops.specs.Plans.{IsPlanFor, StopsAlone, StopsWell}
@@ -24,7 +24,7 @@ use Rattle.rp_stops.specs.Safe.{KeepsRows}
 use Rattle.rp_stops.specs.Writers.{Event, mine, theirs, Interleaves, Survive, before, behind, calls_of, ours, others}
 use Rattle.rp_stops.proofs.Cells.{SameNews}
 use Rattle.rp_stops.proofs.Cuts.{others-append, ours-append}
-use Rattle.rp_stops.proofs.Given.{Given, grows, layout}
+use Rattle.rp_stops.proofs.Given.{IsSized, Given, grows, layout}
 use Rattle.rp_stops.proofs.Missing.{calls_grow, calls_miss}
 use Rattle.rp_stops.proofs.Outcomes.{Shows, blocks_unsynced, stage_shows}
 use Rattle.rp_stops.proofs.Stages.{Stop, stages}
@@ -35,17 +35,17 @@ use Rattle.rp_stops.proofs.Writes.{IsKeptRow, old_rows, others_inside}
 pub plan-sector : (sector : ℕ) (old : List ℕ) (empty : Empty) (seen : Seen) (plan : Plan) → IsPlanFor sector old empty seen plan
     → plan.goal.sector ≡ sector
 plan-sector sector old empty seen plan is =
-    let both = accepted_seen sector old empty seen is.of_sector is.bytes is.seen_of in
+    let both = accepted-sized sector old empty seen is.of_sector is.seen_of in
     is.fits.well_formed.sector ∙ both.0.of_sector
 
 pub plan-given : (sector : ℕ) (old : List ℕ) (empty : Empty) (seen : Seen) (plan : Plan) → IsPlanFor sector old empty seen plan
     → Given old seen plan
 plan-given sector old empty seen plan is =
-    let both = accepted_seen sector old empty seen is.of_sector is.bytes is.seen_of in
+    let both = accepted-sized sector old empty seen is.of_sector is.seen_of in
     let e = sym (plan-sector sector old empty seen plan is) in
     record {
       is_sector = subst IsSector e is.of_sector;
-      seen_is = subst (λ z. IsSeen z seen) e both.0;
+      seen_is = subst (λ z. IsSized z seen) e both.0;
       seen_of = subst (λ z. IsSeenOf z old seen) e both.1;
       fits = is.fits;
       table_fits = is.table_fits;

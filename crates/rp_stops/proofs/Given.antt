@@ -5,7 +5,7 @@ use Rattle.std.proofs.lemmas.List.Elements.{All-nil, All-cons, All-head, All-tai
 use Rattle.rp_crc.specs.Crc.{crc}
 use Rattle.rp_base.specs.Geometry.{IsSector, AreEntries, array_sectors, first_usable, least_sectors, sector_units, usable_end}
 use Rattle.rp_base.specs.Plan.{Fits, IsWellFormed, Noted, noted_of}
-use Rattle.rp_base.specs.Table.{IsWhole, TableFits}
+use Rattle.rp_base.specs.Table.{IsInPlace, IsWhole, TableFits}
 use Rattle.rp_base.specs.declared.geometry.Which.{Which}
 use Rattle.rp_base.specs.declared.geometry.Which.TheVariants.{Primary, Backup}
 use Rattle.rp_base.specs.declared.plan.Change.TheVariants.{New}
@@ -13,7 +13,7 @@ use Rattle.rp_base.specs.declared.plan.Note.{Note}
 use Rattle.rp_base.specs.declared.plan.Plan.{Plan}
 use Rattle.rp_base.specs.declared.seen.Seen.{Seen}
 use Rattle.rp_base.specs.declared.table.Row.{Row}
-use Rattle.rp_gpt.specs.Accepted.{IsSeen, IsSeenOf}
+use Rattle.rp_gpt.specs.Accepted.{IsSeenOf}
 use Rattle.rp_gpt.specs.Copy.{exact, header_bytes, table_array, table_entries}
 use Rattle.rp_gpt.specs.Mbr.{mbr_bytes}
 use Rattle.rp_gpt.specs.Numbers.{u32_bytes}
@@ -25,10 +25,17 @@ use Rattle.rp_stops.specs.Order.{array_offset, goal_array, goal_header, header_o
 use Rattle.rp_stops.proofs.Cells.{Layout}
 use Rattle.rp_stops.proofs.Places.{sectors_are, zeros-nothing}
 
+-- what is seen of an image: whole sectors, no fewer than two copies of the shown table need, and a table in place
+pub record IsSized (sector : ℕ) (seen : Seen) : Type 0 where
+  pub of_sector : seen.shown.sector ≡ sector
+  pub whole : IsWhole sector seen.sectors
+  pub room : least_sectors sector seen.shown.entries ≤ seen.sectors / sector_units sector
+  pub in_place : IsInPlace seen.sectors seen.shown
+
 -- what is known of an image and of the plan for it
 pub record Given (old : List ℕ) (seen : Seen) (plan : Plan) : Type 0 where
   pub is_sector : IsSector plan.goal.sector
-  pub seen_is : IsSeen plan.goal.sector seen
+  pub seen_is : IsSized plan.goal.sector seen
   pub seen_of : IsSeenOf plan.goal.sector old seen
   pub fits : Fits seen plan
   pub table_fits : TableFits plan.goal

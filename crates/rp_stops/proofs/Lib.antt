@@ -25,3 +25,4 @@ pub mod Wrong
 mod Computed
 pub mod After
 pub mod Moments
+pub mod Accepting

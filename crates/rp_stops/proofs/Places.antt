@@ -7,7 +7,7 @@ use Rattle.rp_base.specs.declared.geometry.Which.TheVariants.{Primary, Backup}
 use Rattle.rp_base.specs.declared.table.Table.{Table}
 use Rattle.rp_gpt.specs.declared.copy.CopyFault.{CopyFault}
 use Rattle.rp_gpt.specs.declared.copy.CopyFault.TheVariants as copies
-use Rattle.rp_gpt.specs.Copy.{answer, array_of, chosen_entries, header_of, in_place}
+use Rattle.rp_gpt.specs.Copy.{answer, array_of, header_of, in_place}
 use Rattle.rp_gpt.specs.Fields.{signature}
 use Rattle.rp_gpt.specs.Numbers.{u64_at}
 use Rattle.rp_gpt.specs.Shown.{shows, nothing, answer_at, entries_at, header_at, place_of, told, told_at}
@@ -16,7 +16,7 @@ use Rattle.rp_gpt.proofs.Chosen.{chosen-place}
 use Rattle.rp_gpt.proofs.ExactPlaces.{entries_at-said}
 use Rattle.rp_gpt.proofs.ImagePlaces.{entries_at-may_have, length-place_of, may_have-room}
 use Rattle.rp_gpt.proofs.Laws.{answer-unsigned}
-use Rattle.rp_gpt.proofs.Sectors.{by_sector, copy_bytes-is}
+use Rattle.rp_gpt.proofs.Sectors.{by_sector, copy_bytes-is, same_room}
 use Rattle.rp_stops.specs.Order.{array_offset, header_offset}
 use Rattle.rp_stops.proofs.Ranges.{take_bytes, drop_bytes}
 
@@ -32,7 +32,7 @@ pub same_parts : (which : Which) (sector : ℕ) (xs ys : List ℕ) → header_of
 same_parts which sector xs ys h a = in_parts which sector xs ∙ ap₂ (in_place which) h a ∙ sym (in_parts which sector ys)
 
 -- a place that tells a table says it
-told-says : (said : Result Table CopyFault) (table : Table) → told said ≡ shows table → said ≡ Ok table
+pub told-says : (said : Result Table CopyFault) (table : Table) → told said ≡ shows table → said ≡ Ok table
 told-says (Ok other) table e = cc
 told-says (Err copies.Signature) table e = cc
 told-says (Err copies.Revision) table e = cc
@@ -125,29 +125,43 @@ module _ (sector : ℕ) (is : IsSector sector) (image : List ℕ) (sectors : ℕ
         (entries_at-may_have sector image is whole_sectors which (room_here 128 least)) in
         (has.0, subst (λ n. least_sectors sector (entries_at sector image which) ≤ n) sectors_are has.1)
 
-    -- a place that tells a table says it with the table's number of entries
-    pub tells-says : (table : Table) (which : Which) → told_at sector image which ≡ shows table
-        → answer (place_of sector image table.entries which) which (sectors_of sector image) sector ≡ Ok table
-    unfolding told_at answer_at place_of
-    tells-says table which tells =
+    -- a place that tells a table has as many bytes as a copy of it
+    tells-length : (table : Table) (which : Which) → told_at sector image which ≡ shows table
+        → copy_bytes table.entries sector ≡ copy_bytes (entries_at sector image which) sector
+    unfolding told_at answer_at
+    tells-length table which tells =
         let e = entries_at sector image which in
         let has = may_have_here which in
+        let place = place_of sector image (entries_at sector image which) which in
+        let header = header_of sector (place_of sector image (entries_at sector image which) which) which in
         let says = told-says (answer (place_of sector image (entries_at sector image which) which) which
         (sectors_of sector image) sector) table tells in
-        let count : table.entries ≡ chosen_entries sector (length (place_of sector image (entries_at sector image which) which))
-        (header_of sector (place_of sector image (entries_at sector image which) which) which) =
-        answer-entries (place_of sector image (entries_at sector image which) which) which (sectors_of sector image) sector table says in
+        let count = answer-entries (place_of sector image (entries_at sector image which) which) which
+        (sectors_of sector image) sector table says in
         let chosen = chosen-place sector (sectors_of sector image) (length (place_of sector image (entries_at sector image which) which))
         (header_of sector (place_of sector image (entries_at sector image which) which) which) is
         (record {
           entries = entries_at sector image which;
           allowed = has.0;
-          whole =
-              place_long (entries_at sector image which) has.1 which;
+          whole = place_long (entries_at sector image which) has.1 which;
           room = room_here (entries_at sector image which) has.1;
         }) in
-        let bytes_are : copy_bytes table.entries sector ≡ copy_bytes (entries_at sector image which) sector =
-        ap (λ n. copy_bytes n sector) count ∙ sym chosen.whole ∙ place_long (entries_at sector image which) has.1 which in
+        ap (λ n. copy_bytes n sector) count ∙ sym chosen.whole ∙ place_long (entries_at sector image which) has.1 which
+
+    pub tells-room : (table : Table) (which : Which) → told_at sector image which ≡ shows table
+        → least_sectors sector table.entries ≤ sectors
+    tells-room table which tells =
+        same_room sector is (entries_at sector image which) table.entries sectors (sym (tells-length table which tells))
+        (may_have_here which).1
+
+    -- and says it with the table's number of entries
+    pub tells-says : (table : Table) (which : Which) → told_at sector image which ≡ shows table
+        → answer (place_of sector image table.entries which) which (sectors_of sector image) sector ≡ Ok table
+    unfolding told_at answer_at place_of
+    tells-says table which tells =
+        let says = told-says (answer (place_of sector image (entries_at sector image which) which) which
+        (sectors_of sector image) sector) table tells in
+        let bytes_are = tells-length table which tells in
         let same : array_sectors sector table.entries ≡ array_sectors sector (entries_at sector image which) =
         one_size table.entries (entries_at sector image which) bytes_are in
         subst (λ bytes. answer bytes which (sectors_of sector image) sector ≡ Ok table)

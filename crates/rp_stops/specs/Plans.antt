@@ -1,5 +1,5 @@
 -- A plan for an image, and what holds at each stop in its calls: own rules.
-use Rattle.std.specs.Prelude.{ℕ, ◌≡◌, ◌<◌, List, All, Ok}
+use Rattle.std.specs.Prelude.{ℕ, ◌≡◌, List, Ok}
 use Rattle.rp_base.specs.Geometry.{IsSector}
 use Rattle.rp_base.specs.Plan.{Fits}
 use Rattle.rp_base.specs.Table.{TableFits}
@@ -15,7 +15,6 @@ use Rattle.rp_stops.specs.Writers.{Event, Survive}
 -- the plan fits what is seen of an image, which is accepted
 pub record IsPlanFor (sector : ℕ) (old : List ℕ) (empty : Empty) (seen : Seen) (plan : Plan) : Type 0 where
   pub of_sector : IsSector sector
-  pub bytes : All (λ byte. byte < 256) old
   pub seen_of : accepted sector old empty ≡ Ok seen
   pub fits : Fits seen plan
   pub table_fits : TableFits plan.goal
