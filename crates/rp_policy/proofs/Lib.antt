@@ -1,0 +1,10 @@
+mod Back
+mod Complete
+mod Cuts
+mod Finding
+mod Full
+mod Joined
+mod Rows
+mod Steps
+mod Tried
+mod Whole
