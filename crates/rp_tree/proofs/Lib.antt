@@ -1,0 +1,9 @@
+pub mod ReadsLemmas
+pub mod RangeLemmas
+pub mod StandingLemmas
+pub mod PieceLemmas
+pub mod NextLemmas
+pub mod BlockLemmas
+pub mod Counts
+pub mod RootLemmas
+pub mod SealedLemmas

@@ -1,0 +1,24 @@
+-- None of the blocks before is wrong.
+use Rattle.std.proofs.Common.{◌≡◌, ◌≤◌, ◌*◌, ◌-◌, ℕ, List, None, Ok, length}
+use Rattle.std.specs.Prelude.{IfSome, find}
+use Rattle.std.specs.List.{range_with_len}
+use Rattle.sha2.specs.Hashers.{Holds256}
+use Rattle.rp_disk.specs.History.{shown}
+use Rattle.rp_disk.specs.Made.{history_told}
+use Rattle.rp_tree.specs.Reads.{Reads, end_of}
+use Rattle.rp_tree.proofs.PieceLemmas.{differs_from}
+use Rattle.rp_tree.proofs.run.wrong_in.Given as goal
+
+abbrev pub invariant-pieces : goal.invariant-pieces
+invariant-pieces g l = record {
+  within : l.done ≤ l.count;
+  some : 1 ≤ l.most;
+  most : 4096 * l.most ≤ length l.buffer;
+  reads : Reads {T = Unit {0}} (end_of l.payload) (g.D.Disk.first l.initial.disk) (g.D.Disk.first l.disk) (g.D.Disk.calls l.initial.disk) (g.D.Disk.calls l.disk)
+      (g.D.Disk.strays l.initial.disk) (g.D.Disk.strays l.disk) (g.D.Disk.faults l.initial.disk) (g.D.Disk.faults l.disk) (Ok tt);
+  found : IfSome (history_told (g.D.Disk.first l.initial.disk) (g.D.Disk.calls l.initial.disk)) (λ h. (salt : List ℕ) → Holds256 l.salted salt
+      → find (differs_from (shown h) salt l.payload l.first l.digests) (range_with_len 0 l.done) ≡ None);
+}
+
+abbrev pub decreases-pieces : goal.decreases-pieces
+decreases-pieces g l = l.count - l.done

@@ -1,0 +1,4 @@
+pub mod Reads
+pub mod Checked
+pub mod Standing
+pub mod Sealed

@@ -1,0 +1,303 @@
+//! The calls that check a tree.
+
+ghost use Rattle.std.specs.Prelude.{◌≡◌, ◌+◌, ◌-◌, ◌*◌, ◌^◌, ◌≢◌, ◌≤◌, ◌++◌, Some, None, IfSome, IfOk, MatchOption, OnOk, drop, length, option_map, if◌then◌else◌};
+ghost use Rattle.std.specs.Option.{option_or};
+ghost use Rattle.rp_base.specs.Faults.{HasCause};
+ghost use Rattle.rp_base.specs.Trees.{levels as levels_of};
+ghost use Rattle.rp_disk.specs.History.{shown};
+ghost use Rattle.rp_disk.specs.Made.{history_told};
+ghost use Rattle.rp_verity.specs.Superblock.{FitIn, salt_in, superblock_in};
+ghost use Rattle.sha2.specs.Hashers.{Holds256};
+ghost use Rattle.rp_tree.specs.Reads.{Reads, end_of, ends_of};
+ghost use Rattle.rp_tree.specs.Checked.{bad_in, block_of, first_bad, has_root, is_rooted, superblock_of, salt_of, top_of, wrong_block};
+ghost use Rattle.rp_tree.specs.Standing.{IsShape, IsTreeOf};
+
+use crate::Bad;
+use crate::level::{first_noted, next_block};
+use crate::read::read_blocks;
+use crate::right::is_right;
+use crate::run::data_under;
+use rp_base::{Failed, Row};
+use rp_disk::Disk;
+use rp_verity::{BLOCK, DIGEST, SALT, Superblock, levels, read_superblock, runs};
+use sha2::{Digest, Sha256};
+
+/// Blocks of the room that is used.
+const ROOM: usize = 6;
+
+/// The most levels of a tree.
+const MOST_LEVELS: usize = 5;
+
+/// What a superblock says, and a hasher that has taken its salt.
+#[derive(Drop)]
+pub(crate) struct Tree {
+    pub(crate) said: Superblock,
+    pub(crate) salted: Sha256,
+}
+
+/// Whether the superblock of a hash row is right for it and its data row, and the digest of the topmost block, or of the
+/// only data block, is the identifier of the data row with that of the hash row behind it. The room has 6 blocks. A row
+/// that ends past the disk's end is met by a fault where it is read.
+pub fn check_root<D: Disk>(
+    disk: &mut D,
+    payload: &Row,
+    hash: &Row,
+    room: &mut [u8],
+) -> Result<bool, Failed>
+    requires payload { 8 ≤ payload.now.size }
+    requires payload_end { payload.now.start + payload.now.size ≤ 2 ^ 35 }
+    requires hash { 8 ≤ hash.now.size }
+    requires hash_end { hash.now.start + hash.now.size ≤ 2 ^ 35 }
+    requires room { 24576 ≤ length room.old }
+    ensures first { D.first disk.new ≡ D.first disk.old }
+    ensures calls { D.calls disk.new ≡ D.calls disk.old }
+    ensures strays { IfSome (history_told (D.first disk.old) (D.calls disk.old)) (λ h. ends_of payload.now hash.now ≤ length (shown h) → D.strays disk.new ≡ D.strays disk.old) }
+    ensures answer { IfSome (history_told (D.first disk.old) (D.calls disk.old)) (λ h. IfOk result (λ right. right ≡ has_root (shown h) payload.now hash.now)) }
+    ensures cause { HasCause (D.faults disk.old) (D.faults disk.new) result }
+{
+    let block = &mut room[..BLOCK];
+    let Some(tree) = read_tree(disk, payload, hash, block)? else {
+        return Ok(false);
+    };
+    is_rooted(disk, payload, hash, &tree, block)
+}
+
+/// What is wrong first of the tree in a hash row over its data row: the superblock, the digest of the top, then the hash
+/// blocks and then the data blocks, each by place. Nothing exactly where all digests are right. Each block is read once.
+/// The room has 6 blocks. A row that ends past the disk's end is met by a fault where it is read.
+pub fn check_all<D: Disk>(
+    disk: &mut D,
+    payload: &Row,
+    hash: &Row,
+    room: &mut [u8],
+) -> Result<Option<Bad>, Failed>
+    requires payload { 8 ≤ payload.now.size }
+    requires payload_end { payload.now.start + payload.now.size ≤ 2 ^ 35 }
+    requires hash { 8 ≤ hash.now.size }
+    requires hash_end { hash.now.start + hash.now.size ≤ 2 ^ 35 }
+    requires room { 24576 ≤ length room.old }
+    ensures first { D.first disk.new ≡ D.first disk.old }
+    ensures calls { D.calls disk.new ≡ D.calls disk.old }
+    ensures strays { IfSome (history_told (D.first disk.old) (D.calls disk.old)) (λ h. ends_of payload.now hash.now ≤ length (shown h) → D.strays disk.new ≡ D.strays disk.old) }
+    ensures answer { IfSome (history_told (D.first disk.old) (D.calls disk.old)) (λ h. IfOk result (λ bad. bad ≡ first_bad (shown h) payload.now hash.now)) }
+    ensures cause { HasCause (D.faults disk.old) (D.faults disk.new) result }
+{
+    let (block, _) = room.split_at_mut(BLOCK);
+    let Some(tree) = read_tree(disk, payload, hash, block)? else {
+        return Ok(Some(Bad::Superblock));
+    };
+    let (six, _) = room.split_at_mut(BLOCK * ROOM);
+    check_tree(disk, payload, hash, &tree, six)
+}
+
+// The tree that a hash row has for a data row, if its superblock is right.
+fn read_tree<D: Disk>(
+    disk: &mut D,
+    payload: &Row,
+    hash: &Row,
+    block: &mut [u8],
+) -> Result<Option<Tree>, Failed>
+    requires hash { 8 ≤ hash.now.size }
+    requires end { hash.now.start + hash.now.size ≤ 2 ^ 35 }
+    requires block { length block.old ≡ 4096 }
+    ensures reads { Reads (end_of hash.now) (D.first disk.old) (D.first disk.new) (D.calls disk.old) (D.calls disk.new) (D.strays disk.old) (D.strays disk.new) (D.faults disk.old) (D.faults disk.new) result }
+    ensures tree { IfSome (history_told (D.first disk.old) (D.calls disk.old)) (λ h. IfOk result (λ found.
+        MatchOption found (superblock_of (shown h) payload.now hash.now ≡ None) (IsTreeOf (shown h) payload.now hash.now))) }
+    ensures fits { IfOk result (λ found. IfSome found (λ tree. FitIn tree.said.blocks payload.now hash.now)) }
+{
+    read_blocks(disk, hash, 0, block)?;
+    Ok(tree_in(block, payload, hash))
+}
+
+// The tree of a superblock's block, if that is right.
+fn tree_in(block: &[u8], payload: &Row, hash: &Row) -> Option<Tree>
+    requires { length block.now ≡ 4096 }
+    ensures tree { MatchOption result (superblock_in block.now payload.now hash.now ≡ None)
+        (λ tree. (superblock_in block.now payload.now hash.now ≡ Some tree.said) × Holds256 tree.salted (salt_in block.now tree.said.salt_size)) }
+    ensures fits { IfSome result (λ tree. FitIn tree.said.blocks payload.now hash.now) }
+{
+    let said = read_superblock(block, payload, hash)?;
+    let mut salted = Sha256::new();
+    salted.update(&block[SALT..SALT + said.salt_size as usize]);
+    Some(Tree { said, salted })
+}
+
+// Whether the root hash of a tree is the identifiers of its rows. The block whose digest it is is left in the room.
+fn is_rooted<D: Disk>(
+    disk: &mut D,
+    payload: &Row,
+    hash: &Row,
+    tree: &Tree,
+    block: &mut [u8],
+) -> Result<bool, Failed>
+    requires fits { FitIn tree.now.said.blocks payload.now hash.now }
+    requires payload_end { payload.now.start + payload.now.size ≤ 2 ^ 35 }
+    requires hash_end { hash.now.start + hash.now.size ≤ 2 ^ 35 }
+    requires block { length block.old ≡ 4096 }
+    ensures reads { Reads (ends_of payload.now hash.now) (D.first disk.old) (D.first disk.new) (D.calls disk.old) (D.calls disk.new) (D.strays disk.old) (D.strays disk.new) (D.faults disk.old) (D.faults disk.new) result }
+    ensures block { IfSome (history_told (D.first disk.old) (D.calls disk.old)) (λ h. OnOk result (block.new ≡ top_of (shown h) payload.now hash.now tree.now.said.blocks)) }
+    ensures root { IfSome (history_told (D.first disk.old) (D.calls disk.old)) (λ h. IsTreeOf (shown h) payload.now hash.now tree.now
+        → IfOk result (λ right. right ≡ is_rooted (shown h) payload.now hash.now tree.now.said)) }
+{
+    read_top(disk, payload, hash, tree.said.blocks, block)?;
+    Ok(is_right(&tree.salted, block, &root_of(payload, hash), 0))
+}
+
+// Reads the topmost block, or the only data block.
+fn read_top<D: Disk>(
+    disk: &mut D,
+    payload: &Row,
+    hash: &Row,
+    blocks: u64,
+    block: &mut [u8],
+) -> Result<(), Failed>
+    requires fits { FitIn blocks payload.now hash.now }
+    requires payload_end { payload.now.start + payload.now.size ≤ 2 ^ 35 }
+    requires hash_end { hash.now.start + hash.now.size ≤ 2 ^ 35 }
+    requires block { length block.old ≡ 4096 }
+    ensures reads { Reads (ends_of payload.now hash.now) (D.first disk.old) (D.first disk.new) (D.calls disk.old) (D.calls disk.new) (D.strays disk.old) (D.strays disk.new) (D.faults disk.old) (D.faults disk.new) result }
+    ensures block { IfSome (history_told (D.first disk.old) (D.calls disk.old)) (λ h. OnOk result (block.new ≡ top_of (shown h) payload.now hash.now blocks)) }
+{
+    if blocks == 1 {
+        read_blocks(disk, payload, 0, block)
+    } else {
+        read_blocks(disk, hash, 1, block)
+    }
+}
+
+// The identifiers of the rows, as a root hash.
+fn root_of(payload: &Row, hash: &Row) -> [u8; DIGEST]
+    ensures value { result ≡ payload.now.id.0 ++ hash.now.id.0 }
+    ensures len { length result ≡ 32 }
+{
+    let mut root = [0; DIGEST];
+    let (front, back) = root.split_at_mut(DIGEST / 2);
+    front.copy_from_slice(&payload.id.0);
+    back.copy_from_slice(&hash.id.0);
+    root
+}
+
+// What is wrong first of a tree whose superblock is right.
+fn check_tree<D: Disk>(
+    disk: &mut D,
+    payload: &Row,
+    hash: &Row,
+    tree: &Tree,
+    room: &mut [u8],
+) -> Result<Option<Bad>, Failed>
+    requires fits { FitIn tree.now.said.blocks payload.now hash.now }
+    requires payload_end { payload.now.start + payload.now.size ≤ 2 ^ 35 }
+    requires hash_end { hash.now.start + hash.now.size ≤ 2 ^ 35 }
+    requires room { length room.old ≡ 24576 }
+    ensures reads { Reads (ends_of payload.now hash.now) (D.first disk.old) (D.first disk.new) (D.calls disk.old) (D.calls disk.new) (D.strays disk.old) (D.strays disk.new) (D.faults disk.old) (D.faults disk.new) result }
+    ensures bad { IfSome (history_told (D.first disk.old) (D.calls disk.old)) (λ h. IsTreeOf (shown h) payload.now hash.now tree.now
+        → IfOk result (λ bad. bad ≡ bad_in (shown h) payload.now hash.now tree.now.said)) }
+{
+    if tree.said.blocks == 1 {
+        let (block, _) = room.split_at_mut(BLOCK);
+        let rooted = is_rooted(disk, payload, hash, tree, block)?;
+        return Ok(top_bad(rooted));
+    }
+    let count = levels(tree.said.blocks);
+    let (buffer, standing) = room.split_at_mut(BLOCK * (ROOM - count as usize));
+    let rooted = top_stands(disk, payload, hash, tree, count, standing)?;
+    if !rooted {
+        return Ok(Some(Bad::Top));
+    }
+    check_blocks(disk, payload, hash, tree, count, buffer, standing)
+}
+
+// What is wrong of a tree without hash blocks.
+fn top_bad(rooted: bool) -> Option<Bad>
+    ensures { result ≡ (if rooted then None else Some Bad.Top) }
+{
+    if rooted { None } else { Some(Bad::Top) }
+}
+
+// Whether the root hash of a tree with hash blocks is right. Its topmost block is left in the last place of the room.
+fn top_stands<D: Disk>(
+    disk: &mut D,
+    payload: &Row,
+    hash: &Row,
+    tree: &Tree,
+    count: u32,
+    standing: &mut [u8],
+) -> Result<bool, Failed>
+    requires fits { FitIn tree.now.said.blocks payload.now hash.now }
+    requires more { tree.now.said.blocks ≢ 1 }
+    requires payload_end { payload.now.start + payload.now.size ≤ 2 ^ 35 }
+    requires hash_end { hash.now.start + hash.now.size ≤ 2 ^ 35 }
+    requires count { 1 ≤ count }
+    requires low { count ≤ 5 }
+    requires standing { length standing.old ≡ 4096 * count }
+    ensures reads { Reads (ends_of payload.now hash.now) (D.first disk.old) (D.first disk.new) (D.calls disk.old) (D.calls disk.new) (D.strays disk.old) (D.strays disk.new) (D.faults disk.old) (D.faults disk.new) result }
+    ensures block { IfSome (history_told (D.first disk.old) (D.calls disk.old)) (λ h. OnOk result (drop (4096 * (count - 1)) standing.new ≡ block_of (shown h) hash.now 1)) }
+    ensures root { IfSome (history_told (D.first disk.old) (D.calls disk.old)) (λ h. IsTreeOf (shown h) payload.now hash.now tree.now
+        → IfOk result (λ right. right ≡ is_rooted (shown h) payload.now hash.now tree.now.said)) }
+{
+    let at = BLOCK * (count as usize - 1);
+    is_rooted(disk, payload, hash, tree, &mut standing[at..])
+}
+
+// What is wrong of the blocks of a tree whose topmost block stands in the last place of the room.
+fn check_blocks<D: Disk>(
+    disk: &mut D,
+    payload: &Row,
+    hash: &Row,
+    tree: &Tree,
+    count: u32,
+    buffer: &mut [u8],
+    standing: &mut [u8],
+) -> Result<Option<Bad>, Failed>
+    requires fits { FitIn tree.now.said.blocks payload.now hash.now }
+    requires more { tree.now.said.blocks ≢ 1 }
+    requires payload_end { payload.now.start + payload.now.size ≤ 2 ^ 35 }
+    requires hash_end { hash.now.start + hash.now.size ≤ 2 ^ 35 }
+    requires count { count ≡ levels_of tree.now.said.blocks }
+    requires standing { length standing.old ≡ 4096 * count }
+    requires buffer { 4096 ≤ length buffer.old }
+    requires shape { IsShape hash.now count tree.now.said.blocks (length standing.old) 5 }
+    ensures reads { Reads (ends_of payload.now hash.now) (D.first disk.old) (D.first disk.new) (D.calls disk.old) (D.calls disk.new) (D.strays disk.old) (D.strays disk.new) (D.faults disk.old) (D.faults disk.new) result }
+    ensures bad { IfSome (history_told (D.first disk.old) (D.calls disk.old)) (λ h. IsTreeOf (shown h) payload.now hash.now tree.now
+        → drop (4096 * (count - 1)) standing.old ≡ block_of (shown h) hash.now 1
+        → IfOk result (λ bad. bad ≡ wrong_block (shown h) (salt_of (shown h) hash.now tree.now.said) payload.now hash.now tree.now.said.blocks)) }
+{
+    let blocks = tree.said.blocks;
+    let mut notes = [None; MOST_LEVELS];
+    let mut found = None;
+    for index in 0..runs(blocks) {
+        next_block(
+            disk,
+            hash,
+            &tree.salted,
+            count,
+            blocks,
+            index,
+            standing,
+            &mut notes,
+        )?;
+        let (digests, _) = standing.split_at(BLOCK);
+        let now = data_under(
+            disk,
+            payload,
+            &tree.salted,
+            blocks,
+            index,
+            found,
+            digests,
+            buffer,
+        )?;
+        found = now;
+    }
+    Ok(block_bad(first_noted(count, &notes), found))
+}
+
+// What is wrong by the first wrong hash block and the first wrong data block.
+fn block_bad(noted: Option<u64>, found: Option<u64>) -> Option<Bad>
+    ensures { result ≡ option_or (option_map (λ block. Bad.Hash block) noted) (option_map (λ block. Bad.Data block) found) }
+{
+    match noted {
+        Some(block) => Some(Bad::Hash { block }),
+        None => found.map(|block| Bad::Data { block }),
+    }
+}

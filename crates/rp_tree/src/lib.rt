@@ -1,0 +1,15 @@
+//! Whether the hash tree of a data row is right (Linux, dm-verity).
+#![tactic(auto)]
+
+mod bad;
+mod check;
+pub mod law;
+mod level;
+mod read;
+mod right;
+mod run;
+#[cfg(test)]
+mod tests;
+
+pub use bad::Bad;
+pub use check::{check_all, check_root};

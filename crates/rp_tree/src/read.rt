@@ -1,0 +1,31 @@
+//! Reading blocks of rows.
+
+ghost use Rattle.std.specs.Prelude.{◌≡◌, ◌+◌, ◌*◌, ◌≤◌, ◌^◌, IfSome, OnOk, length};
+ghost use Rattle.rp_base.specs.Image.{bytes_at};
+ghost use Rattle.rp_disk.specs.History.{shown};
+ghost use Rattle.rp_disk.specs.Made.{history_told};
+ghost use Rattle.rp_tree.specs.Reads.{Reads, end_of};
+
+use rp_base::{Failed, Row};
+use rp_disk::Disk;
+
+/// Bytes of a unit, in which rows count.
+const UNIT: u64 = 512;
+
+/// Bytes of a block.
+const BLOCK: u64 = 4096;
+
+/// Fills the buffer with the blocks of a row from the one with this number on.
+pub(crate) fn read_blocks<D: Disk>(
+    disk: &mut D,
+    row: &Row,
+    number: u64,
+    buf: &mut [u8],
+) -> Result<(), Failed>
+    requires row { row.now.start + row.now.size ≤ 2 ^ 35 }
+    requires blocks { 4096 * number + length buf.old ≤ 512 * row.now.size }
+    ensures reads { Reads (end_of row.now) (D.first disk.old) (D.first disk.new) (D.calls disk.old) (D.calls disk.new) (D.strays disk.old) (D.strays disk.new) (D.faults disk.old) (D.faults disk.new) result }
+    ensures bytes { IfSome (history_told (D.first disk.old) (D.calls disk.old)) (λ h. OnOk result (buf.new ≡ bytes_at (shown h) (512 * row.now.start + 4096 * number) (length buf.old))) }
+{
+    disk.read(UNIT * row.start + BLOCK * number, buf)
+}
