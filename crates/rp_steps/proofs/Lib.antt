@@ -5,3 +5,11 @@ pub mod Planned
 pub mod Counted
 mod Rows
 pub mod Idle
+pub mod Written
+pub mod Pieces
+pub mod Filled
+pub mod Trees
+pub mod Rowed
+pub mod Contented
+pub mod Made
+pub mod Composed

@@ -3,3 +3,5 @@ pub mod Steps
 pub mod Writes
 pub mod Planned
 pub mod Done
+pub mod Contents
+pub mod Calls
