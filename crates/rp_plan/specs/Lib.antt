@@ -1,0 +1,7 @@
+pub mod Demands
+pub mod Goal
+pub mod Kept
+pub mod Names
+pub mod Notes
+pub mod Plannable
+pub mod Rows
