@@ -1,6 +1,7 @@
 mod After
 mod Apart
 mod Files
+mod Filled
 mod Idle
 mod Laid
 mod Lists

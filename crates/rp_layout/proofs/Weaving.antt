@@ -60,7 +60,7 @@ anchor_is : (wants : List Want) (limit : ℕ) (e : Extent) → (area_behind want
 anchor_is wants limit e = behind_with (anchor_of limit e) wants limit e
 
 -- an anchor is the row's own definition
-anchor_file : (limit : ℕ) (e : Extent) (f : ℕ) → anchor_of limit e ≡ Some f → e.file ≡ Some f
+pub anchor_file : (limit : ℕ) (e : Extent) (f : ℕ) → anchor_of limit e ≡ Some f → e.file ≡ Some f
 anchor_file limit e f = cond_both (eqb (e.start % 8) 0 && leb (e.start / 8 + grains_up e.size) limit) e.file None (λ o. o ≡ Some f
     → e.file ≡ Some f)
     (λ _ is. is) (λ _ is. absurd (let same : None ≡ Some f = is in cc))

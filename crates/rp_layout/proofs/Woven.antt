@@ -54,7 +54,7 @@ module _ (table : Table) (last : ℕ) (matched : List (Option ℕ)) (wants : Lis
   again = stacked (grains_up table.first) (stack (0, first_area)) (woven last wants es (map stack (enumerate_from 1 other_areas)))
 
   -- the extents of the rows that are there
-  abbrev IsRow : Extent → Type 0
+  abbrev pub IsRow : Extent → Type 0
   IsRow e = (p : ℕ) × (row : Row) × (slice_get table.rows p ≡ Some row) × (e ≡ extent_of matched (p, row))
 
   are_rows : All IsRow (extents_of table.rows matched)
@@ -70,7 +70,7 @@ module _ (table : Table) (last : ℕ) (matched : List (Option ℕ)) (wants : Lis
       let both : Some (Some i) ≡ Some (Some j) = sym (owner_has matched i file one) ∙ owner_has matched j file two in
       let same : i ≡ j = cc in omega (arith, same, before)))
 
-  sorted_rows : All IsRow es
+  pub sorted_rows : All IsRow es
   sorted_rows = sorted_all IsRow [] (extents_of table.rows matched) (All-nil IsRow) are_rows
 
   sorted_own : AllPairs Owns es

@@ -6,8 +6,8 @@ ghost use Rattle.rp_base.specs.declared.table.Table.{Table};
 ghost use Rattle.rp_base.specs.declared.want.Want.{Want};
 ghost use Rattle.rp_base.specs.Table.{IsLaidOut};
 ghost use Rattle.rp_areas.specs.declared.gaps.Area.{Area};
-ghost use Rattle.rp_areas.specs.Again.{AreAmong, AreStacks, IsStack, Piece, rows_again, rows_by_start};
-ghost use Rattle.rp_areas.specs.Areas.{area_before, grains_up, want_at};
+ghost use Rattle.rp_areas.specs.Again.{AreAmong, AreStacks, IsFilled, IsStack, Piece, rows_again, rows_by_start};
+ghost use Rattle.rp_areas.specs.Areas.{area_before, areas_of, extents_of, grains_up, want_at};
 ghost use Rattle.rp_place.specs.declared.fit.New.{New};
 ghost use Rattle.rp_place.specs.declared.threshold.Placed.{Placed};
 ghost use Rattle.rp_layout.specs.declared.spot.Spot.{Spot};
@@ -103,4 +103,21 @@ pub fn rows_after_are_woven()
         → stacks_of table.rows matched wants areas news kept.areas ≡ before ∷ others
         → AreAmong (extents_after table.rows matched news (laid table.rows matched wants areas news kept.areas)) (rows_again table last matched wants before others)
         × AreAmong (rows_again table last matched wants before others) (extents_after table.rows matched news (laid table.rows matched wants areas news kept.areas)) }
+{}
+
+/// A table with the rows after is one whose areas were filled, by the wants of definitions as they stand; the areas of the
+/// table before are the same by these.
+pub fn rows_after_fill_the_areas()
+    ensures areas { (table : Table) (last : ℕ) (matched : List (Option ℕ)) (wants : List Want) (areas : List Area) (news : List New) (kept : Placed)
+        (own : List Want) → IsReady table last matched wants areas news kept
+        → ((file : ℕ) → AsksFor (want_at own file) (units_at table.rows matched file) (want_at wants file))
+        → areas_of table last matched own ≡ areas_of table last matched wants }
+    ensures filled { (table : Table) (last : ℕ) (matched : List (Option ℕ)) (wants : List Want) (areas : List Area) (news : List New) (kept : Placed)
+        (own : List Want) (again : Table) (rematched : List (Option ℕ)) (before : List Piece) (others : List (List Piece))
+        → IsReady table last matched wants areas news kept
+        → ((file : ℕ) → AsksFor (want_at own file) (units_at table.rows matched file) (want_at wants file))
+        → again.first ≡ table.first → again.last ≡ last
+        → extents_of again.rows rematched ≡ extents_after table.rows matched news (laid table.rows matched wants areas news kept.areas)
+        → stacks_of table.rows matched wants areas news kept.areas ≡ before ∷ others
+        → IsFilled table again last matched rematched own before others }
 {}
