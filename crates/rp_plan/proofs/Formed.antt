@@ -86,12 +86,12 @@ fold_above : (rows : List Row) (a : ℕ) → a ≤ fold (λ slot (row : Row). ma
 fold_above [] a = omega arith
 fold_above (r ∷ rows) a = omega (arith, fold_above rows (max a (r.slot + 1)))
 
-used_below : (rows : List Row) (a : ℕ) → All (λ s. s < fold (λ slot (row : Row). max slot (row.slot + 1)) a rows) (map (λ (r : Row). r.slot) rows)
+pub used_below : (rows : List Row) (a : ℕ) → All (λ s. s < fold (λ slot (row : Row). max slot (row.slot + 1)) a rows) (map (λ (r : Row). r.slot) rows)
 used_below [] a = λ k d below. absurd (omega (arith, below))
 used_below (r ∷ rows) a = All-cons (λ s. s < fold (λ slot (row : Row). max slot (row.slot + 1)) (max a (r.slot + 1)) rows) r.slot (map (λ (r : Row). r.slot) rows)
     (omega (arith, fold_above rows (max a (r.slot + 1)))) (used_below rows (max a (r.slot + 1)))
 
-slot_again : (o : Option Spot) (row : Row) → (option_map_or (λ (s : Spot). record row { size = s.size }) o row).slot ≡ row.slot
+pub slot_again : (o : Option Spot) (row : Row) → (option_map_or (λ (s : Spot). record row { size = s.size }) o row).slot ≡ row.slot
 slot_again None row = refl
 slot_again (Some s) row = refl
 

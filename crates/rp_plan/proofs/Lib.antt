@@ -1,9 +1,11 @@
 pub mod Counted
 pub mod Demanded
+pub mod Fitting
 pub mod Formed
 pub mod Given
 pub mod Keeping
 pub mod KeptLemmas
+pub mod Limited
 pub mod Listing
 pub mod Naming
 pub mod Paired

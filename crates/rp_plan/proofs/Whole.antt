@@ -58,10 +58,10 @@ module _ (seen : Seen) (target : ℕ) (defs : List Definition) (facts : List Fac
   abbrev own : List (Option ℕ)
   own = matched_of seen.shown defs
 
-  abbrev taken : List (ℕ × Definition)
+  abbrev pub taken : List (ℕ × Definition)
   taken = kept_of (matched_of seen.shown defs) placed.threshold defs
 
-  abbrev free : ℕ
+  abbrev pub free : ℕ
   free = first_free seen.shown.rows
 
   abbrev old_notes : List Note
@@ -79,7 +79,7 @@ module _ (seen : Seen) (target : ℕ) (defs : List Definition) (facts : List Fac
   old_count = length-map (enumerate_from 0 seen.shown.rows) (old_note own plan.goal.rows) ∙ length-enumerate_from 0 seen.shown.rows
 
   -- the note on a row that was there
-  old_at : (k : ℕ) (d : Note) → k < length seen.shown.rows → (r : Row) × (get_or plan.notes k d ≡ old_note own plan.goal.rows (k, r))
+  pub old_at : (k : ℕ) (d : Note) → k < length seen.shown.rows → (r : Row) × (get_or plan.notes k d ≡ old_note own plan.goal.rows (k, r))
   old_at k d below =
       let inside : k < length old_notes = omega (arith, below, old_count) in
       let l : k < length (enumerate_from 0 seen.shown.rows) = omega (arith, below, length-enumerate_from 0 seen.shown.rows) in (
@@ -91,7 +91,7 @@ module _ (seen : Seen) (target : ℕ) (defs : List Definition) (facts : List Fac
       )
 
   -- the note on the row of a kept definition
-  new_at : (j : ℕ) (e : ℕ × Definition) (d : Note) → slice_get taken j ≡ Some e
+  pub new_at : (j : ℕ) (e : ℕ × Definition) (d : Note) → slice_get taken j ≡ Some e
       → get_or plan.notes (length seen.shown.rows + j) d
       ≡ note_on seen target defs facts seed areas placed plan given made j e.0 e.1
   new_at j e d at =
@@ -104,18 +104,18 @@ module _ (seen : Seen) (target : ℕ) (defs : List Definition) (facts : List Fac
       ∙ ap (new_note seed defs facts free (kept_files own placed.threshold defs)) (get_or-enumerate_from free taken j (0, e) below
       ∙ ap (λ x. (free + j, x)) (get_or_from_slice_get taken j e e at))
 
-  abbrev old_rows : List Row
+  abbrev pub old_rows : List Row
   old_rows = map (row_again (matched_of seen.shown defs) (spots seen target defs facts seed areas placed plan given made)) (enumerate_from 0 seen.shown.rows)
 
-  abbrev new_rows : List Row
+  abbrev pub new_rows : List Row
   new_rows = map (row_for (spots seen target defs facts seed areas placed plan given made))
       (enumerate_from (first_free seen.shown.rows) (kept_of (matched_of seen.shown defs) placed.threshold defs))
 
-  rows_count : length old_rows ≡ length seen.shown.rows
+  pub rows_count : length old_rows ≡ length seen.shown.rows
   rows_count = length-map (enumerate_from 0 seen.shown.rows) (row_again own (spots seen target defs facts seed areas placed plan given made))
       ∙ length-enumerate_from 0 seen.shown.rows
 
-  goal_count : length plan.goal.rows ≡ length seen.shown.rows + length taken
+  pub goal_count : length plan.goal.rows ≡ length seen.shown.rows + length taken
   goal_count =
       let same = sym (length-map plan.goal.rows bare)
       ∙ ap length (is_named seen target defs facts seed areas placed plan given made).rows ∙ length-map (old_rows ++ new_rows) bare in
@@ -151,7 +151,7 @@ module _ (seen : Seen) (target : ℕ) (defs : List Definition) (facts : List Fac
       ∙ ap (row_for place) (get_or-enumerate_from free taken j (0, e) below ∙ ap (λ x. (free + j, x)) (get_or_from_slice_get taken j e e at)))
       ∙ ap (λ (o : Option Spot). option_map_or (λ (s : Spot). s.size) o 0) found
 
-  is_taken : (j : ℕ) (e : ℕ × Definition) → slice_get taken j ≡ Some e
+  pub is_taken : (j : ℕ) (e : ℕ × Definition) → slice_get taken j ≡ Some e
       → (slice_get defs e.0 ≡ Some e.1) × (is_kept own placed.threshold e ≡ true)
   is_taken j e at = subst (λ (x : ℕ × Definition). (slice_get defs x.0 ≡ Some x.1) × (is_kept own placed.threshold x ≡ true))
       (get_or_from_slice_get taken j e e at) (kept_entries own placed.threshold defs j e (slice_get_within taken j e at))
@@ -174,7 +174,7 @@ module _ (seen : Seen) (target : ℕ) (defs : List Definition) (facts : List Fac
       fact_fits e.0 e.1 r.size both.0 (omega (arith, is.min, min_is, same)) (rw same is.kind.whole) (fact_of facts e.0) refl
 
   -- a row is one that was there, or that of a kept definition
-  which : (k : ℕ) → k < length plan.goal.rows
+  pub which : (k : ℕ) → k < length plan.goal.rows
       → (k < length seen.shown.rows) ⊎ ((j : ℕ) × (e : ℕ × Definition) × (slice_get taken j ≡ Some e) × (k ≡ length seen.shown.rows + j))
   which k below = elim (cases_lt k (length seen.shown.rows)) [
     | inl old ↦ inl old
@@ -188,7 +188,7 @@ module _ (seen : Seen) (target : ℕ) (defs : List Definition) (facts : List Fac
         ] refl
   ]
 
-  abbrev pair_at : ℕ → Noted → Noted
+  abbrev pub pair_at : ℕ → Noted → Noted
   pair_at k d = (get_or plan.goal.rows k d.0, get_or plan.notes k d.1)
 
   notes_count : length plan.notes ≡ length plan.goal.rows
@@ -201,7 +201,7 @@ module _ (seen : Seen) (target : ℕ) (defs : List Definition) (facts : List Fac
         length-enumerate_from free taken,
       )
 
-  zip_at : (k : ℕ) (d : Noted) → k < length (noted_of plan) → (k < length plan.goal.rows) × (get_or (noted_of plan) k d ≡ pair_at k d)
+  pub zip_at : (k : ℕ) (d : Noted) → k < length (noted_of plan) → (k < length plan.goal.rows) × (get_or (noted_of plan) k d ≡ pair_at k d)
   zip_at k d below =
       let l : k < length plan.goal.rows = omega (arith, below, length-zip plan.goal.rows plan.notes) in
       (l, get_or-zip plan.goal.rows plan.notes k d l (omega (arith, l, notes_count)))
