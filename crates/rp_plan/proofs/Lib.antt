@@ -1,3 +1,4 @@
+pub mod Computed
 pub mod Counted
 pub mod Demanded
 pub mod Fitting
