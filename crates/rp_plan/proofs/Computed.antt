@@ -31,8 +31,8 @@ image rows = record {
   mbr = mbrs.Same;
 }
 
-abbrev row : ℕ → ℕ → ℕ → ℕ → Row
-row slot kind start size = record {
+abbrev entry : ℕ → ℕ → ℕ → ℕ → Row
+entry slot kind start size = record {
   slot = slot;
   kind = guid kind;
   id = guid (100 + slot);
@@ -78,7 +78,7 @@ unfolding goal plan_asked plan_among plan_placed goal_table spots_of named rows_
 equal_weights = refl
 
 -- a row of a definition grows, and the new one stands behind it in the next slot
-grown : becomes (row 3 1 2048 80 ∷ []) (def 1 11 (pos 0) 2560 2560 1000 ∷ def 2 12 (pos 0) 2560 (2 ^ 52) 1000 ∷ []) []
+grown : becomes (entry 3 1 2048 80 ∷ []) (def 1 11 (pos 0) 2560 2560 1000 ∷ def 2 12 (pos 0) 2560 (2 ^ 52) 1000 ∷ []) []
     ≡ Ok ((3, 2048, 20480) ∷ (4, 22528, 108504) ∷ [], [])
 unfolding goal plan_asked plan_among plan_placed goal_table spots_of named rows_named in_turn changed shares_of with_grains with_grain next_below sooner_of can_take
 grown = refl
@@ -105,7 +105,17 @@ unfolding goal plan_asked plan_among plan_placed goal_table spots_of named rows_
 identifier_taken = refl
 
 -- a row of a definition has a foreign one behind it
-no_room_behind : becomes (row 0 1 2048 80 ∷ row 1 7 2128 8 ∷ []) (def 1 11 (pos 0) 2560 (2 ^ 52) 1000 ∷ []) []
+no_room_behind : becomes (entry 0 1 2048 80 ∷ entry 1 7 2128 8 ∷ []) (def 1 11 (pos 0) 2560 (2 ^ 52) 1000 ∷ []) []
     ≡ Err (Existing 0 10485760 40960)
 unfolding goal plan_asked
 no_room_behind = refl
+
+-- a row that ends past the last grain keeps its size, and grows where the image does
+stays_odd : becomes (entry 0 1 2048 128991 ∷ []) (def 1 11 (pos 0) 2560 (2 ^ 52) 1000 ∷ []) [] ≡ Ok ((0, 2048, 128991) ∷ [], [])
+unfolding goal plan_asked plan_among plan_placed goal_table spots_of named rows_named in_turn changed shares_of with_grains with_grain next_below sooner_of can_take
+stays_odd = refl
+
+grows_with_the_image : shown (goal (image (entry 0 1 2048 128991 ∷ [])) 262144 (def 1 11 (pos 0) 2560 (2 ^ 52) 1000 ∷ []) [] (guid 5))
+    ≡ Ok ((0, 2048, 260056) ∷ [], [])
+unfolding goal plan_asked plan_among plan_placed goal_table spots_of named rows_named in_turn changed shares_of with_grains with_grain next_below sooner_of can_take
+grows_with_the_image = refl
