@@ -1,5 +1,5 @@
 -- The calls of a plan under the law of every stop.
-use Rattle.std.proofs.Common.{◌≡◌, ℕ, ◌+◌, ◌-◌, ◌*◌, ◌≤◌, List, ◌++◌, length, replicate, arith}
+use Rattle.std.proofs.Common.{◌≡◌, ℕ, ◌-◌, ◌*◌, List, length, replicate, arith}
 use Rattle.std.proofs.lemmas.List.{length-append, length-replicate}
 use Rattle.rp_base.specs.Plan.{IsWellFormed}
 use Rattle.rp_base.specs.declared.plan.Plan.{Plan}

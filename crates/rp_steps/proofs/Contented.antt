@@ -1,16 +1,15 @@
 -- All calls of the contents' phase: each is a write into a new row, and all of them done give the new rows their contents.
-use Rattle.std.proofs.Common.{◌≡◌, ℕ, zero, suc, ◌+◌, ◌-◌, ◌*◌, ◌/◌, ◌<◌, ◌≤◌, ◌⊎◌, inl, inr, Bool, true, false, cond, List, [], ◌∷◌, ◌++◌, length, get_or, filter, flat_map, refl, sym, ap, ap₂, ◌∙◌, subst, arith, All, AllPairs, zip}
+use Rattle.std.proofs.Common.{◌≡◌, ℕ, ◌+◌, ◌-◌, ◌*◌, ◌/◌, ◌<◌, ◌≤◌, ◌⊎◌, inl, inr, Bool, true, false, cond, List, [], ◌∷◌, ◌++◌, length, get_or, filter, flat_map, refl, sym, ap, ap₂, ◌∙◌, subst, arith}
 use Rattle.std.proofs.lemmas.Bool.{cases_order}
 use Rattle.std.proofs.lemmas.Grind.{flat_map-append}
 use Rattle.std.proofs.lemmas.List.{ext_get_or, get_or_default}
 use Rattle.std.proofs.lemmas.Slice.Zip.{get_or-zip}
-use Rattle.rp_base.specs.Geometry.{IsSector, array_sectors, sector_units, usable_end}
+use Rattle.rp_base.specs.Geometry.{IsSector, sector_units, usable_end}
 use Rattle.rp_base.specs.Image.{bytes_at, range_of}
 use Rattle.rp_base.specs.Plan.{IsWellFormed, Noted, noted_of}
 use Rattle.rp_base.specs.Table.{AreApart}
 use Rattle.rp_base.specs.declared.plan.Change.{Change}
 use Rattle.rp_base.specs.declared.plan.Change.TheVariants.{New, Changed, Same}
-use Rattle.rp_base.specs.declared.plan.Note.{Note}
 use Rattle.rp_base.specs.declared.plan.Plan.{Plan}
 use Rattle.rp_base.specs.declared.seen.Seen.{Seen}
 use Rattle.rp_base.specs.declared.table.Row.{Row}
@@ -22,7 +21,7 @@ use Rattle.rp_disk.specs.Stops.{Each}
 use Rattle.rp_disk.proofs.Agreeing.{Each-left, Each-right}
 use Rattle.rp_disk.proofs.Blocks.{Each-imp}
 use Rattle.rp_disk.proofs.Ranges.{length-all_done, length-bytes_at}
-use Rattle.rp_stops.specs.Rows.{HoldContents, IsInNewRow, IsInside}
+use Rattle.rp_stops.specs.Rows.{HoldContents, IsInNewRow}
 use Rattle.rp_steps.specs.Calls.{calls_of, calls_of_steps, contents_calls}
 use Rattle.rp_steps.specs.Contents.{NotesFit, RoleFits, Sources, contents}
 use Rattle.rp_steps.specs.Steps.{byte_count, contents_steps, from_byte, is_new, new_rows, payload_steps, tree_steps}

@@ -1,5 +1,5 @@
 -- The writes of a plan's steps are few enough to be counted.
-use Rattle.std.proofs.Common.{◌≡◌, ℕ, ◌+◌, ◌*◌, ◌-◌, ◌/◌, ◌<◌, ◌≤◌, ◌^◌, Bool, true, false, cond, leb, ltb, eqb, List, [], ◌∷◌, ◌++◌, length, Option, Some, None, refl, sym, ap, ◌∙◌, subst, arith, All, AllPairs, filter, flat_map, sum_by, not, ◌||◌}
+use Rattle.std.proofs.Common.{◌≡◌, ℕ, ◌+◌, ◌*◌, ◌-◌, ◌<◌, ◌≤◌, Bool, true, false, cond, leb, ltb, eqb, List, [], ◌∷◌, ◌++◌, length, Option, Some, None, refl, sym, ap, subst, arith, All, flat_map, not, ◌||◌}
 use Rattle.std.specs.Option.{option_map_or}
 use Rattle.std.proofs.lemmas.List.Elements.{All-append, All-cons, All-filter, All-tail}
 use Rattle.std.proofs.lemmas.List.Sums.{count_by-le-length, length-filter, sum_by-append, sum_by-cons}
@@ -17,7 +17,7 @@ use Rattle.rp_base.specs.declared.table.Row.{Row}
 use Rattle.rp_gpt.proofs.Rising.{Rising, Rising-from}
 use Rattle.rp_steps.specs.Planned.{HasRoom, IsPlanned}
 use Rattle.rp_steps.specs.Steps.{byte_count, byte_of_slot, contents_steps, copy_order, copy_phases, copy_steps, from_byte, growth, is_new, mbr_phases, mebibyte, new_rows, payload_steps, phase_of, phases, rest_steps, source_len, steps, synced, tree_steps, is_same, writes_both, writes_mbr, written_copies, zero_steps}
-use Rattle.rp_steps.specs.Writes.{AreCountable, HasBlocks, pieces, writes, writes_in}
+use Rattle.rp_steps.specs.Writes.{AreCountable, HasBlocks, writes, writes_in}
 use Rattle.rp_steps.specs.declared.step.Step.{Step}
 use Rattle.rp_steps.specs.declared.step.Step.TheVariants.{Grow, Zero, Copy, Tree, ClosePrimary, ArrayPrimary, HeaderPrimary, CloseBackup, ArrayBackup, HeaderBackup, Mbr, Sync}
 use Rattle.rp_steps.proofs.Copying.{part_added, synced-append}

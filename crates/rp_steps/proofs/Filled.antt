@@ -1,28 +1,21 @@
 -- Ranges that calls fill with what is planned for them.
-use Rattle.std.proofs.Common.{◌≡◌, ℕ, ◌+◌, ◌-◌, ◌*◌, ◌<◌, ◌≤◌, ◌⊎◌, inl, inr, Bool, true, false, cond, eqb, leb, List, [], ◌∷◌, ◌++◌, length, get_or, take, replicate, Option, Some, None, refl, sym, ap, ◌∙◌, subst, arith, flat_map}
-use Rattle.std.specs.Option.{option_map_or}
-use Rattle.std.specs.Prelude.{IfSome, IsSome}
-use Rattle.std.proofs.lemmas.Bool.{cases_lt, eqb-true, eqb-false, leb-false, leb-true}
-use Rattle.std.proofs.lemmas.Grind.{flat_map-append}
+use Rattle.std.proofs.Common.{◌≡◌, ℕ, ◌+◌, ◌-◌, ◌*◌, ◌<◌, ◌≤◌, ◌⊎◌, inl, inr, Bool, true, false, cond, eqb, leb, List, [], ◌∷◌, ◌++◌, length, get_or, replicate, refl, sym, ap, ◌∙◌, subst, arith}
+use Rattle.std.proofs.lemmas.Bool.{cases_lt, eqb-true, leb-false}
 use Rattle.std.proofs.lemmas.List.{append-nil, get_or-append_right, get_or-replicate, get_or_append_left, length-append, length-replicate}
 use Rattle.rp_base.specs.Image.{bytes_at}
-use Rattle.rp_base.specs.Plan.{HoldsSource, Noted}
 use Rattle.rp_base.specs.declared.plan.Plan.{Plan}
 use Rattle.rp_base.specs.declared.plan.Role.{Role}
 use Rattle.rp_base.specs.declared.plan.Role.TheVariants.{Plain, Data, Hash}
-use Rattle.rp_disk.specs.Calls.{resized}
 use Rattle.rp_disk.specs.declared.call.Call.{Call}
 use Rattle.rp_disk.specs.declared.call.Call.TheVariants.{Write, Sync, SetLen}
 use Rattle.rp_disk.specs.Stops.{Each}
-use Rattle.rp_disk.proofs.Agreeing.{length-resized}
 use Rattle.rp_disk.proofs.Blocks.{Each-imp}
 use Rattle.rp_disk.proofs.Ranges.{length-bytes_at}
 use Rattle.rp_steps.specs.Calls.{calls_of, calls_of_steps, in_pieces}
-use Rattle.rp_steps.specs.Contents.{Sources, plain_rest, source_bytes}
-use Rattle.rp_steps.specs.Steps.{byte_count, copy_steps, from_byte, mebibyte, rest_steps, source_len, zero_steps}
-use Rattle.rp_steps.specs.declared.step.Step.{Step}
+use Rattle.rp_steps.specs.Contents.{Sources, plain_rest}
+use Rattle.rp_steps.specs.Steps.{mebibyte, rest_steps, zero_steps}
 use Rattle.rp_steps.specs.declared.step.Step.TheVariants as steps
-use Rattle.rp_steps.proofs.Pieces.{pieces_cover, pieces_of_none, pieces_write, zeros_cover, zeros_write}
+use Rattle.rp_steps.proofs.Pieces.{pieces_cover, pieces_write, zeros_cover, zeros_write}
 use Rattle.rp_steps.proofs.Written.{Covered, Covered-left, Covered-right, Each-append, Writes, get_or-range}
 
 -- the calls write what is planned inside a range, and what they don't cover of it is there already

@@ -1,9 +1,8 @@
 -- A plan that changes nothing has no steps.
-use Rattle.std.proofs.Common.{◌≡◌, ◌≢◌, ℕ, zero, suc, ◌+◌, ◌<◌, ◌≤◌, Bool, true, false, cond, eqb, not, ◌||◌, List, [], ◌∷◌, ◌++◌, length, get_or, filter, flat_map, refl, sym, ap, ap₂, ◌∙◌, subst, arith, All, IsTrue, zip, eq-eqb, le-ltb}
+use Rattle.std.proofs.Common.{◌≡◌, ◌≢◌, ◌<◌, false, not, ◌||◌, List, [], ◌∷◌, length, get_or, filter, refl, sym, ap, ◌∙◌, arith, All, eq-eqb, le-ltb}
 use Rattle.std.proofs.lemmas.List.Elements.{All-head, All-tail}
 use Rattle.std.proofs.lemmas.Slice.Zip.{get_or-zip}
-use Rattle.rp_base.specs.Plan.{Fits, KeepsRow, Noted, noted_of}
-use Rattle.rp_base.specs.declared.geometry.Which.{Which}
+use Rattle.rp_base.specs.Plan.{Fits, Noted, noted_of}
 use Rattle.rp_base.specs.declared.plan.Change.{Change}
 use Rattle.rp_base.specs.declared.plan.Change.TheVariants.{New, Changed, Same}
 use Rattle.rp_base.specs.declared.plan.Plan.{Plan}
@@ -14,8 +13,7 @@ use Rattle.rp_base.specs.declared.seen.Origin.TheVariants as origins
 use Rattle.rp_base.specs.declared.seen.Seen.{Seen}
 use Rattle.rp_base.specs.declared.table.Row.{Row}
 use Rattle.rp_steps.specs.Done.{IsDone}
-use Rattle.rp_steps.specs.Steps.{contents_steps, copy_order, growth, is_neither, is_new, is_same, mbr_phases, new_rows, phase_of, phases, steps, synced, writes_both, writes_mbr, written_copies}
-use Rattle.rp_steps.specs.declared.step.Step.{Step}
+use Rattle.rp_steps.specs.Steps.{contents_steps, copy_order, growth, is_neither, is_new, is_same, mbr_phases, phases, steps, writes_both, writes_mbr, written_copies}
 use Rattle.rp_steps.proofs.News.{is_new_row}
 use Rattle.rp_steps.proofs.Planned.{length-noted_of, one_note}
 use Rattle.rp_steps.proofs.SameLemmas.{same_table-Decides}

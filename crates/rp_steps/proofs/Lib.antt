@@ -3,6 +3,8 @@ pub mod News
 pub mod Copying
 pub mod Planned
 pub mod Counted
+mod Sized
+pub mod Called
 mod Rows
 pub mod Idle
 pub mod Written

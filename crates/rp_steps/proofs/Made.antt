@@ -1,5 +1,5 @@
 -- The calls of a plan, as the law of stops asks for them: growth, writes into new rows, copies, and the protective MBR.
-use Rattle.std.proofs.Common.{◌≡◌, ◌≢◌, ℕ, ◌+◌, ◌-◌, ◌*◌, ◌<◌, ◌≤◌, Bool, true, false, cond, eqb, leb, ltb, not, ◌||◌, List, [], ◌∷◌, ◌++◌, length, get_or, map, filter, flat_map, replicate, Option, Some, None, refl, sym, ap, ap₂, ◌∙◌, subst, arith, All, append_assoc, inl, inr, ◌⊎◌}
+use Rattle.std.proofs.Common.{◌≡◌, ◌≢◌, ℕ, ◌+◌, ◌-◌, ◌*◌, ◌≤◌, Bool, true, false, cond, eqb, leb, ltb, not, ◌||◌, List, [], ◌∷◌, ◌++◌, length, map, filter, flat_map, replicate, Option, Some, None, refl, sym, ap, ap₂, ◌∙◌, arith, All, append_assoc, inl, inr}
 use Rattle.std.specs.Option.{option_map_or}
 use Rattle.std.proofs.lemmas.Bool.{eqb-false, eqb-true, or_parts}
 use Rattle.std.proofs.lemmas.Grind.{flat_map-append}
@@ -7,7 +7,7 @@ use Rattle.std.proofs.lemmas.List.{length-append, length-replicate, map-append}
 use Rattle.std.proofs.lemmas.List.Elements.{All-append, All-cons, All-head}
 use Rattle.std.proofs.lemmas.List.FromFn.{length-map-range_with_len}
 use Rattle.rp_base.specs.Image.{bytes_at}
-use Rattle.rp_base.specs.Plan.{Noted, noted_of}
+use Rattle.rp_base.specs.Plan.{Noted}
 use Rattle.rp_base.specs.declared.geometry.Which.{Which}
 use Rattle.rp_base.specs.declared.geometry.Which.TheVariants.{Primary, Backup}
 use Rattle.rp_base.specs.declared.plan.Plan.{Plan}
@@ -29,7 +29,7 @@ use Rattle.rp_base.specs.Trees.{hash_blocks}
 use Rattle.rp_verity.specs.Superblock.{superblock}
 use Rattle.rp_steps.specs.Calls.{calls_of, calls_of_steps, in_pieces, tree_writes}
 use Rattle.rp_steps.specs.Contents.{Sources, tree_over}
-use Rattle.rp_steps.specs.Steps.{byte_count, byte_of_slot, contents_steps, copy_order, copy_phases, copy_steps, from_byte, growth, is_neither, is_new, is_same, mbr_phases, mebibyte, new_rows, payload_steps, phase_of, phases, rest_steps, source_len, steps, synced, tree_steps, writes_both, writes_mbr, written_copies, zero_steps}
+use Rattle.rp_steps.specs.Steps.{byte_count, byte_of_slot, contents_steps, copy_order, copy_phases, copy_steps, from_byte, growth, is_neither, is_same, mbr_phases, mebibyte, new_rows, payload_steps, phase_of, phases, rest_steps, source_len, steps, synced, tree_steps, writes_both, writes_mbr, written_copies, zero_steps}
 use Rattle.rp_steps.specs.Writes.{piece, pieces}
 use Rattle.rp_steps.specs.declared.step.Step.{Step}
 use Rattle.rp_steps.specs.declared.step.Step.TheVariants.{Grow, Zero, Copy, Tree, Sync}

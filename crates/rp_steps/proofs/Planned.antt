@@ -1,9 +1,9 @@
 -- What a well formed plan says of its rows.
-use Rattle.std.proofs.Common.{◌≡◌, ℕ, ◌+◌, ◌*◌, ◌-◌, ◌/◌, ◌%◌, ◌<◌, ◌≤◌, ◌^◌, Bool, true, false, cond, eqb, List, [], ◌∷◌, length, get_or, Option, Some, None, refl, sym, ap, ◌∙◌, subst, arith, All, Any, AllPairs, IfSome, IsSome, find, map, zip}
+use Rattle.std.proofs.Common.{◌≡◌, ℕ, ◌*◌, ◌/◌, ◌<◌, ◌≤◌, Bool, true, false, cond, List, [], ◌∷◌, length, get_or, Option, Some, None, refl, sym, ap, ◌∙◌, subst, arith, All, IfSome, IsSome, find}
 use Rattle.std.proofs.lemmas.List.{length-map}
 use Rattle.std.proofs.lemmas.List.Elements.{All-tail}
 use Rattle.std.proofs.lemmas.Slice.Zip.{get_or-zip, length-zip}
-use Rattle.rp_base.specs.Plan.{HasPartner, HoldsSource, IsPair, IsWellFormed, Noted, noted_of}
+use Rattle.rp_base.specs.Plan.{HasPartner, IsPair, IsWellFormed, Noted, noted_of}
 use Rattle.rp_base.specs.Table.{IsWritableRow}
 use Rattle.rp_base.specs.Trees.{hash_blocks}
 use Rattle.rp_base.specs.declared.guid.Guid.{Guid}

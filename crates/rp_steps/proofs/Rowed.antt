@@ -1,13 +1,12 @@
 -- The calls that give one new row its contents.
-use Rattle.std.proofs.Common.{◌≡◌, ℕ, ◌+◌, ◌-◌, ◌*◌, ◌/◌, ◌<◌, ◌≤◌, ◌⊎◌, inl, inr, Bool, true, false, cond, eqb, List, [], ◌∷◌, ◌++◌, length, get_or, take, drop, replicate, Option, Some, None, refl, sym, ap, ap₂, ◌∙◌, subst, arith, flat_map, map, All}
+use Rattle.std.proofs.Common.{◌≡◌, ℕ, ◌+◌, ◌-◌, ◌*◌, ◌<◌, ◌≤◌, ◌⊎◌, inl, inr, Bool, true, false, cond, eqb, List, [], ◌∷◌, ◌++◌, length, get_or, replicate, Option, Some, None, refl, sym, ap, ap₂, ◌∙◌, subst, arith, map, All}
 use Rattle.std.specs.List.{concat}
 use Rattle.std.specs.Option.{option_map_or}
 use Rattle.std.specs.Prelude.{IfSome, IsSome}
 use Rattle.std.proofs.lemmas.Bool.{eqb-true, eqb-false}
 use Rattle.std.proofs.lemmas.Grind.{flat_map-append}
-use Rattle.std.proofs.lemmas.List.{append-nil, get_or-append_right, get_or-replicate, get_or_append_left, length-append, length-map, length-replicate, take_all}
+use Rattle.std.proofs.lemmas.List.{append-nil, get_or-append_right, get_or-replicate, get_or_append_left, length-append, length-map, take_all}
 use Rattle.std.proofs.lemmas.List.FromFn.{length-map-range_with_len}
-use Rattle.rp_base.specs.Image.{bytes_at}
 use Rattle.rp_base.specs.Plan.{HoldsSource, Noted}
 use Rattle.rp_base.specs.Trees.{hash_blocks, levels}
 use Rattle.rp_base.specs.declared.guid.Guid.{Guid}
@@ -29,7 +28,6 @@ use Rattle.rp_steps.specs.Calls.{calls_of, calls_of_steps, in_pieces, tree_write
 use Rattle.rp_steps.specs.Contents.{RoleFits, Sources, contents_as, payload_at, plain_rest, source_bytes, tree_over}
 use Rattle.rp_steps.specs.Planned.{HasRoom}
 use Rattle.rp_steps.specs.Steps.{byte_count, byte_of_slot, copy_steps, from_byte, payload_steps, rest_steps, source_len, tree_steps, zero_steps}
-use Rattle.rp_steps.specs.declared.step.Step.{Step}
 use Rattle.rp_steps.specs.declared.step.Step.TheVariants as steps
 use Rattle.rp_steps.proofs.Filled.{Fill, fill_both, fill_other, fill_pieces, fill_write, length-plain_rest, rest_fill, rest_of, zeros_fill}
 use Rattle.rp_steps.proofs.Pieces.{pieces_of_none}

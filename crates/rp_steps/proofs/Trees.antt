@@ -1,27 +1,24 @@
 -- A tree's calls fill the range behind its superblock's block: each block is written once.
-use Rattle.std.proofs.Common.{◌≡◌, ℕ, zero, suc, ◌+◌, ◌-◌, ◌*◌, ◌/◌, ◌<◌, ◌≤◌, ◌⊎◌, inl, inr, Bool, true, false, cond, eqb, List, [], ◌∷◌, ◌++◌, length, get_or, take, drop, map, replicate, refl, sym, ap, ◌∙◌, subst, arith, All}
+use Rattle.std.proofs.Common.{◌≡◌, ℕ, zero, suc, ◌+◌, ◌-◌, ◌*◌, ◌/◌, ◌<◌, ◌≤◌, inl, inr, Bool, true, false, cond, eqb, List, [], ◌∷◌, ◌++◌, length, get_or, drop, map, refl, sym, ap, ◌∙◌, subst, arith, All}
 use Rattle.std.specs.Prelude.{count_by}
-use Rattle.std.specs.Int.{w16, w32, w64, to_le_bytes}
 use Rattle.std.specs.List.{concat, range_with_len}
-use Rattle.std.proofs.lemmas.Bool.{cases_lt, eqb-true}
-use Rattle.std.proofs.lemmas.List.{get_or-append_right, get_or_append_left, length-append, length-drop, length-map, length-replicate, length-take}
-use Rattle.std.proofs.lemmas.List.Elements.{All-append, All-cons, All-drop, All-from_get_or, All-head, All-map, All-tail, All-take, All-weaker}
+use Rattle.std.proofs.lemmas.Bool.{eqb-true}
+use Rattle.std.proofs.lemmas.List.{get_or-append_right, get_or_append_left, length-append, length-replicate, length-take}
+use Rattle.std.proofs.lemmas.List.Elements.{All-append, All-drop, All-from_get_or, All-head, All-map, All-tail, All-take, All-weaker}
 use Rattle.std.proofs.lemmas.List.Sums.{sum_by-cons}
-use Rattle.std.proofs.lemmas.List.FromFn.{length-map-range_with_len}
 use Rattle.rp_base.specs.Trees.{hash_blocks, levels}
 use Rattle.rp_base.specs.declared.guid.Guid.{Guid}
 use Rattle.rp_disk.specs.declared.call.Call.{Call}
-use Rattle.rp_disk.specs.declared.call.Call.TheVariants.{Write, Sync, SetLen}
+use Rattle.rp_disk.specs.declared.call.Call.TheVariants.{Write}
 use Rattle.rp_disk.specs.Stops.{Each}
-use Rattle.rp_verity.specs.Filled.{cut}
 use Rattle.rp_verity.specs.Order.{blocks_over, order}
 use Rattle.rp_verity.specs.Puts.{placed}
 use Rattle.rp_verity.specs.Room.{AreDigests, IsDigest}
-use Rattle.rp_verity.specs.Superblock.{form, head, superblock}
-use Rattle.rp_verity.specs.Tree.{digest, hash_block, level, raised, run, runs, stored, stored_tree}
+use Rattle.rp_verity.specs.Superblock.{superblock}
+use Rattle.rp_verity.specs.Tree.{hash_block, level, raised, run, runs, stored}
 use Rattle.rp_verity.proofs.Blocks.{are_digests, length-hash_block}
 use Rattle.rp_verity.proofs.OrderLemmas.{order-inside, put_once}
-use Rattle.rp_verity.proofs.ShapeLemmas.{hash_blocks-over, length-stored}
+use Rattle.rp_verity.proofs.ShapeLemmas.{hash_blocks-over}
 use Rattle.rp_steps.specs.Calls.{tree_writes}
 use Rattle.rp_steps.proofs.Filled.{Fill}
 use Rattle.rp_steps.proofs.Written.{Covered, Covers, Writes}

@@ -1,5 +1,5 @@
 -- Calls that write what an image is to hold: at each byte that they cover, the value that is planned for it.
-use Rattle.std.proofs.Common.{◌≡◌, ℕ, zero, suc, ◌+◌, ◌-◌, ◌*◌, ◌/◌, ◌<◌, ◌≤◌, ◌⊎◌, inl, inr, List, [], ◌∷◌, ◌++◌, length, get_or, drop, map, flat_map, refl, sym, ap, ◌∙◌, subst, arith}
+use Rattle.std.proofs.Common.{◌≡◌, ℕ, zero, suc, ◌+◌, ◌-◌, ◌<◌, ◌≤◌, ◌⊎◌, inl, inr, List, [], ◌∷◌, ◌++◌, length, get_or, drop, map, flat_map, sym, ap, ◌∙◌, subst, arith}
 use Rattle.std.specs.List.{range_with_len}
 use Rattle.std.proofs.lemmas.Bool.{cases_lt}
 use Rattle.std.proofs.lemmas.List.{get_or-drop, get_or-take}
@@ -9,7 +9,7 @@ use Rattle.rp_disk.specs.declared.call.Call.TheVariants.{Write, Sync, SetLen}
 use Rattle.rp_disk.specs.Calls.{all_done, done, overwritten}
 use Rattle.rp_disk.specs.Ranges.{Inside}
 use Rattle.rp_disk.specs.Stops.{Each}
-use Rattle.rp_disk.proofs.Agreeing.{get_or-overwritten, length-overwritten}
+use Rattle.rp_disk.proofs.Agreeing.{get_or-overwritten}
 use Rattle.rp_disk.proofs.Ranges.{bytes_at-overwritten, bytes_at-take, length-done}
 
 -- a byte of a range

@@ -1,5 +1,5 @@
 -- The calls on the disk that steps are: own rules.
-use Rattle.std.specs.Prelude.{ℕ, ◌+◌, ◌*◌, List, [], ◌∷◌, ◌++◌, flat_map, length, map, replicate}
+use Rattle.std.specs.Prelude.{ℕ, Bool, true, false, ◌+◌, ◌*◌, List, [], ◌∷◌, ◌++◌, flat_map, length, map, replicate}
 use Rattle.std.specs.List.{range_with_len}
 use Rattle.rp_base.specs.Image.{bytes_at}
 use Rattle.rp_base.specs.declared.geometry.Which.TheVariants.{Primary, Backup}
@@ -53,3 +53,8 @@ calls plan seen sources = calls_of_steps plan sources (steps plan seen)
 -- those that give the new rows their contents
 abbrev pub contents_calls : Plan → Sources → List Call
 contents_calls plan sources = calls_of_steps plan sources (contents_steps plan)
+
+-- a call writes bytes
+abbrev pub is_write : Call → Bool
+is_write (Write at bytes) = true
+is_write other = false

@@ -1,5 +1,5 @@
 -- What a well formed plan says of one of its rows, as its steps need it: serves this crate's functions.
-use Rattle.std.specs.Prelude.{ℕ, ◌+◌, ◌*◌, ◌^◌, ◌≤◌, ⊤}
+use Rattle.std.specs.Prelude.{◌+◌, ◌*◌, ◌^◌, ◌≤◌, ⊤}
 use Rattle.rp_base.specs.Plan.{Noted}
 use Rattle.rp_base.specs.Trees.{hash_blocks}
 use Rattle.rp_base.specs.declared.plan.Role.{Role}

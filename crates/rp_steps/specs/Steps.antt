@@ -10,7 +10,7 @@ use Rattle.rp_base.specs.declared.plan.Change.TheVariants.{New}
 use Rattle.rp_base.specs.declared.plan.Note.{Note}
 use Rattle.rp_base.specs.declared.plan.Plan.{Plan}
 use Rattle.rp_base.specs.declared.plan.Role.{Role}
-use Rattle.rp_base.specs.declared.plan.Role.TheVariants.{Plain, Data, Hash}
+use Rattle.rp_base.specs.declared.plan.Role.TheVariants.{Plain, Hash}
 use Rattle.rp_base.specs.declared.seen.Mbr.{Mbr as MbrState}
 use Rattle.rp_base.specs.declared.seen.Mbr.TheVariants as states
 use Rattle.rp_base.specs.declared.seen.Origin.{Origin}

@@ -1,15 +1,16 @@
 //! Laws of steps, as contracts of functions that do nothing.
 
-ghost use Rattle.std.specs.Prelude.{◌≡◌, ◌*◌, ℕ, List, [], length};
+ghost use Rattle.std.specs.Prelude.{◌≡◌, ◌*◌, ℕ, List, [], count_by, length};
 ghost use Rattle.rp_base.specs.Plan.{Fits, IsWellFormed};
 ghost use Rattle.rp_base.specs.declared.plan.Plan.{Plan};
 ghost use Rattle.rp_base.specs.declared.seen.Seen.{Seen};
 ghost use Rattle.rp_stops.specs.Order.{AreCallsOf};
 ghost use Rattle.rp_stops.specs.Rows.{Fills, grown};
-ghost use Rattle.rp_steps.specs.Calls.{calls, contents_calls};
+ghost use Rattle.rp_steps.specs.Calls.{calls, contents_calls, is_write};
 ghost use Rattle.rp_steps.specs.Contents.{NotesFit, Sources, contents};
 ghost use Rattle.rp_steps.specs.Done.{IsDone};
 ghost use Rattle.rp_steps.specs.Steps.{steps};
+ghost use Rattle.rp_steps.specs.Writes.{writes};
 
 /// A plan that has nothing to change has no steps.
 pub fn nothing_to_change_is_no_steps()
@@ -28,4 +29,10 @@ pub fn calls_are_of_the_plan()
 pub fn contents_are_filled()
     ensures { (seen : Seen) (plan : Plan) (sources : Sources) (old : List ℕ) → IsWellFormed seen plan → NotesFit plan → length old ≡ 512 * seen.sectors
         → Fills old plan (contents plan sources (grown old plan)) (contents_calls plan sources) }
+{}
+
+/// The writes that the steps of a plan count as are those among its calls.
+pub fn writes_are_those_of_the_calls()
+    ensures { (seen : Seen) (plan : Plan) (sources : Sources) → IsWellFormed seen plan
+        → count_by is_write (calls plan seen sources) ≡ writes (steps plan seen) }
 {}

@@ -10,7 +10,10 @@ mod step;
 mod writes;
 
 pub use journal::steps_of;
-pub use law::{calls_are_of_the_plan, contents_are_filled, nothing_to_change_is_no_steps};
+pub use law::{
+    calls_are_of_the_plan, contents_are_filled, nothing_to_change_is_no_steps,
+    writes_are_those_of_the_calls,
+};
 pub use step::Step;
 pub use writes::writes_of;
 

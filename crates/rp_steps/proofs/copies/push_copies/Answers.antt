@@ -1,5 +1,4 @@
-use Rattle.std.proofs.Common.{◌≡◌, ◌∙◌, ◌++◌, ◌||◌, Bool, List, ap, filter, flat_map, not}
-use Rattle.rp_base.specs.declared.geometry.Which.{Which}
+use Rattle.std.proofs.Common.{◌∙◌, ◌++◌, ◌||◌, Bool, ap, filter, flat_map, not}
 use Rattle.rp_steps.specs.Steps.{copy_order, copy_phases, is_same, synced, written_copies}
 use Rattle.rp_steps.proofs.Copying.{copies_added}
 use Rattle.rp_steps.proofs.copies.push_copies.Goals as goal

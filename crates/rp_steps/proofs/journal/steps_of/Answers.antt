@@ -1,4 +1,4 @@
-use Rattle.std.proofs.Common.{◌≡◌, ◌∙◌, ◌++◌, [], List, ap, flat_map, subst, sym}
+use Rattle.std.proofs.Common.{◌≡◌, ◌∙◌, ◌++◌, List, ap, flat_map, subst, sym}
 use Rattle.rp_steps.specs.Steps.{contents_steps, copy_phases, growth, mbr_phases, phase_of, phases, steps, synced, written_copies}
 use Rattle.rp_steps.specs.Writes.{AreCountable}
 use Rattle.rp_steps.specs.declared.step.Step.{Step}

@@ -1,4 +1,4 @@
-use Rattle.std.proofs.Common.{◌≡◌, ℕ, ◌<◌, List, [], length, refl, arith, inl, replicate, All, false}
+use Rattle.std.proofs.Common.{ℕ, List, [], refl, arith, inl, replicate, All, false}
 use Rattle.std.specs.Prelude.{pos}
 use Rattle.rp_base.specs.Plan.{IsWellFormed}
 use Rattle.rp_base.specs.declared.seen.Mbr.TheVariants as states
