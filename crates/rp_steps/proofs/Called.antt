@@ -98,7 +98,8 @@ length-order blocks some =
     omega (arith, all, once, hash_blocks-over blocks some)
 
 -- a write for each element
-writes-map : {X : Type 0} (at : X → ℕ) (bytes : X → List ℕ) (xs : List X) → count_by is_write (map (λ x. Write (at x) (bytes x)) xs) ≡ length xs
+writes-map : {X : Type 0} (at : X → ℕ) (bytes : X → List ℕ) (xs : List X)
+    → count_by is_write (map (λ x. Write (at x) (bytes x)) xs) ≡ length xs
 writes-map at bytes [] = refl
 writes-map at bytes (x ∷ xs) =
     omega (
@@ -122,7 +123,8 @@ module _ (plan : Plan) (sources : Sources) where
   writes-step (Zero at len) has = writes-pieces at (replicate len 0) ∙ ap pieces (length-replicate {A = ℕ} len 0)
   writes-step (Copy file at len) has = writes-pieces at (resized (sources file) len) ∙ ap pieces (length-resized (sources file) len)
   writes-step (Tree data_at hash_at blocks salt uuid root) has =
-      sum_by-append (λ (call : Call). cond (is_write call) 1 0) (tree_writes hash_at blocks (tree_over plan sources data_at blocks salt)) (Write hash_at (superblock uuid blocks salt) ∷ [])
+      sum_by-append (λ (call : Call). cond (is_write call) 1 0) (tree_writes hash_at blocks (tree_over plan sources data_at blocks salt))
+      (Write hash_at (superblock uuid blocks salt) ∷ [])
       ∙ ap (λ (n : ℕ). n + 1) (writes-tree hash_at blocks (tree_over plan sources data_at blocks salt))
       ∙ length-order blocks has.0
   writes-step ClosePrimary has = refl
@@ -138,7 +140,8 @@ module _ (plan : Plan) (sources : Sources) where
   writes-steps [] each = refl
   writes-steps (step ∷ steps) each =
       sum_by-append (λ (call : Call). cond (is_write call) 1 0) (calls_of plan sources step) (calls_of_steps plan sources steps)
-      ∙ ap₂ (λ (a b : ℕ). a + b) (writes-step step (All-head HasBlocks step steps each)) (writes-steps steps (All-tail HasBlocks step steps each))
+      ∙ ap₂ (λ (a b : ℕ). a + b) (writes-step step (All-head HasBlocks step steps each))
+      (writes-steps steps (All-tail HasBlocks step steps each))
       ∙ sym (sum_by-cons writes_in step steps)
 
   pub writes-calls : (seen : Seen) → IsWellFormed seen plan → count_by is_write (calls plan seen sources) ≡ writes (steps plan seen)

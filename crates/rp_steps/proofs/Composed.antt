@@ -24,7 +24,8 @@ are_calls seen plan sources formed fit = record {
   are = calls-flat plan sources seen;
 }
 
-pub fills : (seen : Seen) (plan : Plan) (sources : Sources) (old : List ℕ) → IsWellFormed seen plan → NotesFit plan → length old ≡ 512 * seen.sectors
+pub fills : (seen : Seen) (plan : Plan) (sources : Sources) (old : List ℕ) → IsWellFormed seen plan → NotesFit plan
+    → length old ≡ 512 * seen.sectors
     → Fills old plan (contents plan sources (grown old plan)) (contents_calls plan sources)
 fills seen plan sources old formed fit long =
     let zeros = 512 * plan.target - length old in

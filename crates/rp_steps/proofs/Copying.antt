@@ -11,7 +11,8 @@ pub synced-append : (xs ys : List (List Step)) → synced (xs ++ ys) ≡ synced 
 synced-append xs ys = flat_map-append (λ phase. phase ++ Sync ∷ []) xs ys
 
 -- the copies of two places, each by itself
-cond-append : (test : Which → Bool) (a b : Which) (x : Bool) → test a ≡ x → filter test (a ∷ b ∷ []) ≡ filter test (a ∷ []) ++ filter test (b ∷ [])
+cond-append : (test : Which → Bool) (a b : Which) (x : Bool) → test a ≡ x
+    → filter test (a ∷ b ∷ []) ≡ filter test (a ∷ []) ++ filter test (b ∷ [])
 cond-append test a b true is = rw is refl
 cond-append test a b false is = rw is refl
 
@@ -46,7 +47,8 @@ a_phase : (old steps : List Step) → (length (old ++ steps) ≡ length old → 
 a_phase old [] more = absurd (more (ap length (append-nil old)))
 a_phase old (x ∷ steps) more = append_assoc old (x ∷ steps) (Sync ∷ []) ∙ ap (λ l. old ++ l) (sym (append-nil ((x ∷ steps) ++ Sync ∷ [])))
 
-pub phase_some : (old a b new : List Step) → new ≡ (old ++ a) ++ b → (length new ≡ length old → ⊥) → new ++ Sync ∷ [] ≡ old ++ synced (phase_of (a ++ b))
+pub phase_some : (old a b new : List Step) → new ≡ (old ++ a) ++ b → (length new ≡ length old → ⊥)
+    → new ++ Sync ∷ [] ≡ old ++ synced (phase_of (a ++ b))
 phase_some old a b new is more =
     let joined : new ≡ old ++ (a ++ b) = is ∙ append_assoc old a b in
     ap (λ l. l ++ Sync ∷ []) joined ∙ a_phase old (a ++ b) (λ same. more (ap length joined ∙ same))

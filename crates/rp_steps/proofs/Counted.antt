@@ -40,7 +40,8 @@ append a b xs ys x y = record {
   few = omega (arith, x.few, y.few, sum_by-append writes_in xs ys);
 }
 
-step_more : (a b : ℕ) (step : Step) (steps : List Step) → HasBlocks step → writes_in step ≤ a → Counted b steps → Counted (a + b) (step ∷ steps)
+step_more : (a b : ℕ) (step : Step) (steps : List Step) → HasBlocks step → writes_in step ≤ a → Counted b steps
+    → Counted (a + b) (step ∷ steps)
 step_more a b step steps blocks few counted = record {
   blocks = All-cons HasBlocks step steps blocks counted.blocks;
   few = omega (arith, few, counted.few, sum_by-cons writes_in step steps);
@@ -98,7 +99,8 @@ payload_counted noted Plain planned = filled noted Plain planned
 payload_counted noted (Data partner root) planned = filled noted (Data partner root) planned
 payload_counted noted (Hash partner blocks salt uuid root) planned = more 0 268435456 [] (omega arith) none
 
-tree_counted : (rows : List Row) (row : Row) (role : Role) → row.size ≤ 34359738368 → HasRoom row role → Counted 8589934592 (tree_steps rows row role)
+tree_counted : (rows : List Row) (row : Row) (role : Role) → row.size ≤ 34359738368 → HasRoom row role
+    → Counted 8589934592 (tree_steps rows row role)
 unfolding tree_steps writes_in
 tree_counted rows row Plain small has = more 0 8589934592 [] (omega arith) none
 tree_counted rows row (Data partner root) small has = more 0 8589934592 [] (omega arith) none

@@ -22,7 +22,8 @@ news_among f rows n = flat_map f (filter is_new_row (take n rows))
 abbrev pub if_new : (Noted → List Step) → Noted → List Step
 if_new f noted = cond (is_new_row noted) (f noted) []
 
-one : (f : Noted → List Step) (noted : Noted) (b : Bool) → is_new_row noted ≡ b → flat_map f (filter is_new_row (noted ∷ [])) ≡ if_new f noted
+one : (f : Noted → List Step) (noted : Noted) (b : Bool) → is_new_row noted ≡ b
+    → flat_map f (filter is_new_row (noted ∷ [])) ≡ if_new f noted
 one f noted true is = rw is (append-nil (f noted))
 one f noted false is = rw is refl
 
@@ -36,7 +37,8 @@ news_more f rows n d below =
     ∙ ap (λ l. news_among f rows n ++ l) (one f (get_or rows n d) (is_new_row (get_or rows n d)) refl)
 
 -- all rows
-pub news_all : (f : Noted → List Step) (rows : List Noted) (n : ℕ) → length rows ≤ n → news_among f rows n ≡ flat_map f (filter is_new_row rows)
+pub news_all : (f : Noted → List Step) (rows : List Noted) (n : ℕ) → length rows ≤ n
+    → news_among f rows n ≡ flat_map f (filter is_new_row rows)
 news_all f rows n all = ap (λ l. flat_map f (filter is_new_row l)) (take_all n rows all)
 
 -- a row with its note, of which P holds

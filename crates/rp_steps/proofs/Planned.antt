@@ -17,12 +17,14 @@ use Rattle.rp_steps.specs.Planned.{HasRoom, IsPlanned}
 use Rattle.rp_steps.specs.Steps.{source_len}
 
 -- the row of a slot is one of the rows
-found_here : (row other : Row) (rest : Option Row) (b : Bool) → cond b (Some row) rest ≡ Some other → (rest ≡ Some other → other.start < 36028797018963968)
+found_here : (row other : Row) (rest : Option Row) (b : Bool) → cond b (Some row) rest ≡ Some other
+    → (rest ≡ Some other → other.start < 36028797018963968)
     → row.start < 36028797018963968 → other.start < 36028797018963968
 found_here row other rest true is later small = let same : row ≡ other = cc in subst (λ r. r.start < 36028797018963968) same small
 found_here row other rest false is later small = later is
 
-pub found_small : (test : Row → Bool) (rows : List Row) (row : Row) → All (λ row. row.start < 36028797018963968) rows → find test rows ≡ Some row
+pub found_small : (test : Row → Bool) (rows : List Row) (row : Row) → All (λ row. row.start < 36028797018963968) rows
+    → find test rows ≡ Some row
     → row.start < 36028797018963968
 found_small test [] row small is = cc
 found_small test (r ∷ rows) row small is =
@@ -45,12 +47,14 @@ module _ (seen : Seen) (plan : Plan) (formed : IsWellFormed seen plan) where
       subst (λ (noted : Noted). IsWritableRow plan.goal.sector plan.goal.entries noted.0) (sym (get_or-zip plan.goal.rows plan.notes k d here there))
       (formed.writable.rows.rows k d.0 here)
 
-source_fits : (source file : Option ℕ) (size : ℕ) → IfSome source (λ bytes. IsSome file × (bytes ≤ size)) → (note : Note) → note.source ≡ source → source_len note ≤ size
+source_fits : (source file : Option ℕ) (size : ℕ) → IfSome source (λ bytes. IsSome file × (bytes ≤ size)) → (note : Note)
+    → note.source ≡ source → source_len note ≤ size
 source_fits None file size holds note is = rw is (omega arith)
 source_fits (Some bytes) file size holds note is = rw is holds.1
 
 -- a pair's tree is over whole blocks of the data
-paired : (noted other : Noted) (partner blocks : ℕ) (salt : List ℕ) (uuid : Guid) (root : List ℕ) → noted.1.role ≡ Hash partner blocks salt uuid root
+paired : (noted other : Noted) (partner blocks : ℕ) (salt : List ℕ) (uuid : Guid) (root : List ℕ)
+    → noted.1.role ≡ Hash partner blocks salt uuid root
     → (1 ≤ other.0.size) × (other.0.size ≤ 34359738368) → IsPair other noted → (1 ≤ blocks) × (blocks ≤ 4294967296) × (8 * hash_blocks blocks ≤ noted.0.size)
 paired noted other partner blocks salt uuid root is sized pair =
     let e : blocks ≡ other.0.size / 8 = let h = pair.hash_role.3 in cc in
@@ -59,7 +63,8 @@ paired noted other partner blocks salt uuid root is sized pair =
     let most = sized.1 in
     (omega arith, omega arith, subst (λ (n : ℕ). 8 * hash_blocks n ≤ noted.0.size) (sym e) pair.room)
 
-room : (rows : List Noted) (noted : Noted) (role : Role) → noted.1.role ≡ role → All (λ other. (1 ≤ other.0.size) × (other.0.size ≤ 34359738368)) rows
+room : (rows : List Noted) (noted : Noted) (role : Role) → noted.1.role ≡ role
+    → All (λ other. (1 ≤ other.0.size) × (other.0.size ≤ 34359738368)) rows
     → HasPartner rows noted role → HasRoom noted.0 role
 room rows noted Plain is sizes has = tt
 room rows noted (Data partner root) is sizes has = tt

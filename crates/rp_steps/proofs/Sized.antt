@@ -18,7 +18,8 @@ abbrev pub lowest : ℕ → ℕ → ℕ
 lowest blocks count = sum_by (level_blocks blocks) (range_with_len 0 count)
 
 -- one level more
-pub lowest_more : (blocks level rest : ℕ) → rest ≡ (blocks - 1) / 128 ^ level → lowest blocks (level + 1) ≡ lowest blocks level + (rest / 128 + 1)
+pub lowest_more : (blocks level rest : ℕ) → rest ≡ (blocks - 1) / 128 ^ level
+    → lowest blocks (level + 1) ≡ lowest blocks level + (rest / 128 + 1)
 unfolding level_blocks
 lowest_more blocks level rest is =
     let e : 0 + level ≡ level = omega arith in
@@ -28,7 +29,8 @@ lowest_more blocks level rest is =
     more ∙ ap (λ (n : ℕ). lowest blocks level + n) here
 
 -- all levels, where no quotient before this level is 0, and this one's is, or it is the last
-pub all_levels : (blocks level : ℕ) → level ≤ 5 → ((k : ℕ) → k < level → (blocks - 1) / 128 ^ k ≢ 0) → (level < 5 → (blocks - 1) / 128 ^ level ≡ 0)
+pub all_levels : (blocks level : ℕ) → level ≤ 5 → ((k : ℕ) → k < level → (blocks - 1) / 128 ^ k ≢ 0)
+    → (level < 5 → (blocks - 1) / 128 ^ level ≡ 0)
     → hash_blocks blocks ≡ 1 + lowest blocks level
 unfolding hash_blocks
 all_levels blocks level few before at =
