@@ -1,11 +1,12 @@
 -- A canonical line asks for a command that is built.
-use Rattle.std.proofs.Common.{ℕ, ◌≡◌, List, [], ◌∷◌, Bool, true, false, ◌&&◌, Option, Some, None, Ok, Err, if◌then◌else◌, refl, sym, ◌∙◌, ap}
+use Rattle.std.proofs.Common.{ℕ, ◌≡◌, ◌⊎◌, List, [], ◌∷◌, Bool, true, false, ◌&&◌, Option, Some, None, Ok, Err, if◌then◌else◌, refl, sym, ◌∙◌, ap, subst, inl, inr}
 use Rattle.std.proofs.Common.{drop}
 use Rattle.std.specs.Prelude.{not, option_map, slice_index_or}
 use Rattle.std.specs.Option.{option_or}
 use Rattle.std.specs.Str.{bytes_eq}
 use Rattle.rp_words.specs.declared.line.Line.{Line}
-use Rattle.rp_words.specs.declared.table.Command.TheVariants.{Show}
+use Rattle.rp_words.specs.declared.table.Command.{Command}
+use Rattle.rp_words.specs.declared.table.Command.TheVariants.{Show, Plan}
 use Rattle.rp_words.specs.declared.table.CommandRow.{CommandRow}
 use Rattle.rp_words.specs.declared.fault.WordFault.{WordFault}
 use Rattle.rp_words.specs.declared.fault.WordFault.TheVariants.{Missing, NoImage}
@@ -22,13 +23,13 @@ passed name entry rest e = go (bytes_eq entry.0 name) entry.1.built e where
   go true false e = refl
   go false built e = refl
 
--- every other is one of these
-found : (name : List ℕ) (entry : CommandEntry) (rest : Option CommandRow) (row : CommandRow) → rest ≡ None
-    → option_or (named name entry) rest ≡ Some row → entry.1 ≡ row
-found name entry rest row none e = go (bytes_eq entry.0 name && entry.1.built) e where
-  go : (asked : Bool) → option_or (if asked then Some entry.1 else None) rest ≡ Some row → entry.1 ≡ row
-  go true e = cc
-  go false e = absurd (cc)
+-- a command that is found is that of the entry, or one behind it
+found : (name : List ℕ) (entry : CommandEntry) (rest : Option CommandRow) (row : CommandRow)
+    → option_or (named name entry) rest ≡ Some row → (entry.1 ≡ row) ⊎ (rest ≡ Some row)
+found name entry rest row e = go (bytes_eq entry.0 name && entry.1.built) e where
+  go : (asked : Bool) → option_or (if asked then Some entry.1 else None) rest ≡ Some row → (entry.1 ≡ row) ⊎ (rest ≡ Some row)
+  go true e = inl (cc)
+  go false e = inr e
 
 -- none of these commands is built
 abbrev AreUnbuilt : List (CommandEntry) → Type 0
@@ -39,14 +40,27 @@ all_passed : (name : List ℕ) (entries : List (CommandEntry)) → AreUnbuilt en
 all_passed name [] unbuilt = refl
 all_passed name (entry ∷ entries) unbuilt = passed name entry (first_of (named name) entries) unbuilt.0 ∙ all_passed name entries unbuilt.1
 
--- of the commands of the table only the first is built
-only_show : (name : List ℕ) (row : CommandRow) → command_of name ≡ Some row → row.command ≡ Show
+-- the commands that are built
+abbrev pub IsBuilt : Command → Type 0
+IsBuilt command = (command ≡ Show) ⊎ (command ≡ Plan)
+
+-- of the commands of the table only the first two are built
+only_built : (name : List ℕ) (row : CommandRow) → command_of name ≡ Some row → IsBuilt row.command
 unfolding command_of commands
-only_show name row e =
-    let rest : List (CommandEntry) = drop 1 commands in
-    sym (ap (λ (row : CommandRow). row.command)
-    (found name (slice_index_or commands 0 ([], row, [])) (first_of (named name) rest) row
-    (all_passed name rest (refl, (refl, (refl, (refl, (refl, (refl, (refl, tt)))))))) e))
+only_built name row e =
+    let first : CommandEntry = slice_index_or commands 0 ([], row, []) in
+    let second : CommandEntry = slice_index_or commands 1 ([], row, []) in
+    let rest : List CommandEntry = drop 2 commands in
+    let none : first_of (named name) rest ≡ None = all_passed name rest (refl, (refl, (refl, (refl, (refl, (refl, tt)))))) in
+    elim (found name first (option_or (named name second) (first_of (named name) rest)) row e) [
+      | inl is ↦ inl (sym (ap (λ (row : CommandRow). row.command) is))
+      | inr more ↦ elim (found name second (first_of (named name) rest) row more) [
+        | inl is ↦ inr (sym (ap (λ (row : CommandRow). row.command) is))
+        | inr past ↦ absurd (no_row row (sym none ∙ past))
+      ]
+    ] where
+      no_row : (row : CommandRow) → ◌≡◌ {A = Option CommandRow} None (Some row) → ⊥
+      no_row row e = absurd (cc)
 
 -- a line is that of the command of its first word
 same_command : (row : CommandRow) (words : List (List ℕ)) (line : Line) → line_with row words ≡ Ok line → line.command ≡ row.command
@@ -63,10 +77,10 @@ same_command row words line e =
       go None None true e = absurd (cc)
       go None None false e = its (cc)
 
--- the one command that is built is `show`
-pub asks_to_show : (words : List (List ℕ)) (line : Line) → line_of words ≡ Ok line → line.command ≡ Show
-asks_to_show [] line e = absurd (cc)
-asks_to_show (name ∷ words) line e = go (command_of name) refl e where
-  go : (found : Option CommandRow) → command_of name ≡ found → line_behind found words ≡ Ok line → line.command ≡ Show
+-- a canonical line asks for a command that is built
+pub asks_for : (words : List (List ℕ)) (line : Line) → line_of words ≡ Ok line → IsBuilt line.command
+asks_for [] line e = absurd (cc)
+asks_for (name ∷ words) line e = go (command_of name) refl e where
+  go : (found : Option CommandRow) → command_of name ≡ found → line_behind found words ≡ Ok line → IsBuilt line.command
   go None f e = absurd (cc)
-  go (Some row) f e = same_command row words line e ∙ only_show name row f
+  go (Some row) f e = subst (λ (command : Command). IsBuilt command) (sym (same_command row words line e)) (only_built name row f)

@@ -1,0 +1,29 @@
+-- What a line asks a command for.
+use Rattle.std.specs.Prelude.{ℕ, ◌≡◌, ◌⊎◌, List, Bool}
+use Rattle.rp_base.specs.Faults.{Rose}
+use Rattle.rp_io.specs.Files.{Tree}
+use Rattle.rp_io.specs.declared.stored.Stored.{Stored}
+use Rattle.rp_outcome.specs.Device.{Device}
+use Rattle.rp_outcome.specs.Output.{Output, Refuses}
+use Rattle.rp_outcome.specs.Refusals.{memory_refusal}
+use Rattle.rp_outcome.specs.Statuses as exit
+use Rattle.rp_outcome.specs.Store.{Store}
+use Rattle.rp_plan_command.specs.Plans.{Plans}
+use Rattle.rp_planned.specs.declared.request.Request.{Request}
+use Rattle.rp_words.specs.declared.line.Line.{Line}
+
+-- what a line asks of a command that plans
+abbrev pub request_of : Line → Request
+request_of line = record { seed = line.seed; arch = line.arch; empty = line.empty; size = line.size; sector = line.sector }
+
+-- what `plan` does, or there was no memory for the paths of the folders, and nothing was asked
+abbrev pub PlansAsked : Request → Bool → List (List ℕ) → Store Tree → Store Tree → Device → Device → Store (List Stored) → Store (List Stored)
+    → Output → Output → ℕ → Type 0
+PlansAsked request json dirs folders read disk later sources drained out after status =
+    Plans request json dirs folders read disk later sources drained out after status
+    ⊎ ((read ≡ folders) × (later ≡ disk) × (drained ≡ sources) × Refuses out after memory_refusal status)
+
+-- a failure of folders or sources comes only where they counted it, and none is passed over where the command is done
+pub record HasFileCauses (folders read : Store Tree) (sources drained : Store (List Stored)) (status : ℕ) : Type 0 where
+  pub failed : status ≡ exit.files → Rose folders.faults read.faults ⊎ Rose sources.faults drained.faults
+  pub kept : status ≡ exit.done → (read.faults ≡ folders.faults) × (drained.faults ≡ sources.faults)
