@@ -9,6 +9,3 @@ mod matching;
 
 pub use gaps::{Area, AreaFault, areas};
 pub use matching::assign;
-
-#[cfg(test)]
-mod tests;

@@ -15,10 +15,6 @@ mod reader;
 mod readers;
 mod sections;
 mod setting;
-#[cfg(test)]
-mod tests_reader;
-#[cfg(test)]
-mod tests_sections;
 mod value;
 mod values;
 mod want;

@@ -28,6 +28,3 @@ pub use seen_law::{
     accepted_is_seen, exact_mbr_is_same, exact_places_are_accepted, foreign_has_no_size,
 };
 pub use table_fault::{Empty, TableFault};
-
-#[cfg(test)]
-mod tests;

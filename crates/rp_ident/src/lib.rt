@@ -5,8 +5,6 @@ mod fault;
 mod given;
 pub mod law;
 mod naming;
-#[cfg(test)]
-mod tests;
 mod tried;
 mod used;
 

@@ -9,8 +9,6 @@ mod file;
 mod lines;
 mod logical;
 mod parser;
-#[cfg(test)]
-mod tests;
 mod trim;
 
 pub use assign::Assign;

@@ -54,6 +54,3 @@ fn nowhere(alloc: Global, definitions: usize) -> Result<Vec<Option<Spot>>, Memor
 {
     Ok(vec![in alloc; None; definitions]?)
 }
-
-#[cfg(test)]
-mod tests;

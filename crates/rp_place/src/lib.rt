@@ -7,6 +7,3 @@ mod threshold;
 
 pub use fit::{New, PlaceFault, place};
 pub use threshold::{Placed, settle};
-
-#[cfg(test)]
-mod tests;

@@ -6,8 +6,6 @@ mod names;
 mod plan;
 mod plan_json;
 mod tables;
-#[cfg(test)]
-mod tests;
 
 pub use plan::plan_text;
 pub use tables::show_text;

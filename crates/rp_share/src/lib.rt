@@ -42,6 +42,3 @@ pub fn share(span: u64, items: &[Item], out: &mut [u64])
     let rest = level::fill(level, span, items, out);
     rest::hand_out(rest, items, out);
 }
-
-#[cfg(test)]
-mod tests;

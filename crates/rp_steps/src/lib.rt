@@ -16,6 +16,3 @@ pub use law::{
 };
 pub use step::Step;
 pub use writes::writes_of;
-
-#[cfg(test)]
-mod tests;

@@ -6,8 +6,6 @@ mod image;
 mod judge;
 mod pieces;
 mod rows;
-#[cfg(test)]
-mod tests;
 mod told;
 
 pub use image::{read, read_at};

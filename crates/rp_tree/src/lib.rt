@@ -8,8 +8,6 @@ mod level;
 mod read;
 mod right;
 mod run;
-#[cfg(test)]
-mod tests;
 
 pub use bad::Bad;
 pub use check::{check_all, check_root};

@@ -13,6 +13,3 @@ pub use attributes::{GROW_FILE_SYSTEM, NO_AUTO, READ_ONLY};
 pub use guids::{read_guid, write_guid};
 pub use label::label_of;
 pub use names::{bits, by_guid, by_name, designator_of};
-
-#[cfg(test)]
-mod tests;

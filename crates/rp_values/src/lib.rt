@@ -9,10 +9,6 @@ mod numbers;
 mod path;
 mod split;
 mod switch;
-#[cfg(test)]
-mod tests_numbers;
-#[cfg(test)]
-mod tests_texts;
 
 pub use kind::{read_id, read_kind};
 pub use label::{LabelFault, read_label};
