@@ -48,7 +48,8 @@ pub window_at : (w : List (List ℕ)) (j i : ℕ) → i < length w → slice_ind
 window_at w j i h = get_or-map (λ v. slice_index v j) w i [] 0 h
 
 -- a window in a lane, with a word set
-pub window_set : (w : List (List ℕ)) (j i : ℕ) (x : List ℕ) → window_lane j (slice_set w i x) ≡ slice_set (window_lane j w) i (slice_index x j)
+pub window_set : (w : List (List ℕ)) (j i : ℕ) (x : List ℕ)
+    → window_lane j (slice_set w i x) ≡ slice_set (window_lane j w) i (slice_index x j)
 window_set w j i x = map-set (λ v. slice_index v j) w i x
 
 -- a word of a state in a lane
@@ -58,7 +59,8 @@ lane_at state j (suc zero) h = refl
 lane_at state j (suc (suc zero)) h = refl
 lane_at state j (suc (suc (suc zero))) h = refl
 lane_at state j (suc (suc (suc (suc i)))) h =
-    below_four (λ k. slice_index (lane j state) (suc (suc (suc (suc k)))) ≡ slice_index (slice_index_or state (suc (suc (suc (suc k)))) []) j)
+    below_four (λ k. slice_index (lane j state) (suc (suc (suc (suc k))))
+    ≡ slice_index (slice_index_or state (suc (suc (suc (suc k)))) []) j)
     refl refl refl refl i (omega arith)
 
 -- four values, each of its own element
@@ -66,6 +68,7 @@ pub map_four : {A B : Type 0} → (f : A → B) (d : A) (r0 r1 r2 r3 : B) (xs : 
     → r0 ≡ f (slice_index_or xs 0 d) → r1 ≡ f (slice_index_or xs 1 d) → r2 ≡ f (slice_index_or xs 2 d) → r3 ≡ f (slice_index_or xs 3 d)
     → r0 ∷ r1 ∷ r2 ∷ r3 ∷ [] ≡ map f xs
 map_four f d r0 r1 r2 r3 =
-    of_four (λ xs. r0 ≡ f (slice_index_or xs 0 d) → r1 ≡ f (slice_index_or xs 1 d) → r2 ≡ f (slice_index_or xs 2 d) → r3 ≡ f (slice_index_or xs 3 d)
+    of_four (λ xs. r0 ≡ f (slice_index_or xs 0 d) → r1 ≡ f (slice_index_or xs 1 d)
+    → r2 ≡ f (slice_index_or xs 2 d) → r3 ≡ f (slice_index_or xs 3 d)
     → r0 ∷ r1 ∷ r2 ∷ r3 ∷ [] ≡ map f xs)
     (λ x0 x1 x2 x3 e0 e1 e2 e3. rw (e0, e1, e2, e3) refl)

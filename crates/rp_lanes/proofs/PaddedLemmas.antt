@@ -35,13 +35,16 @@ pub padded_at_length : (m : List ℕ) (p v k : ℕ) → v ≡ length m * 8 % 2 ^
 padded_at_length m p v k ev ek =
     let place : p - (padded_blocks (length m) * 64 - 8) ≡ k = omega arith in
     ap (λ (x : List ℕ). slice_index x p) (padded_in_two m)
-    ∙ get_or-append_right (m ++ front (length m)) (bits (length m)) (padded_blocks (length m) * 64 - 8) p 0 (length-padded_front m) (omega arith)
+    ∙ get_or-append_right (m ++ front (length m)) (bits (length m)) (padded_blocks (length m) * 64 - 8) p 0
+    (length-padded_front m) (omega arith)
     ∙ ap (λ (n : ℕ). slice_index (bits (length m)) n) place
     ∙ ap (λ (n : ℕ). slice_index (to_be_bytes w64 n) k) (sym ev)
 
 -- 64 bytes that stand in a message
 part_length : (m : List ℕ) (i : ℕ) → i < padded_blocks (length m) → length (padded_block i m) ≡ 64
-part_length m i h = length-take-le 64 (drop (i * 64) (padded_message m)) (omega (arith, length-drop (i * 64) (padded_message m), length-padded_message m))
+part_length m i h =
+    length-take-le 64 (drop (i * 64) (padded_message m))
+    (omega (arith, length-drop (i * 64) (padded_message m), length-padded_message m))
 
 -- a block from its bytes
 pub padded_block_is : (m x : List ℕ) (i : ℕ) → i < padded_blocks (length m) → length x ≡ 64

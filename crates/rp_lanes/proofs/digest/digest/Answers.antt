@@ -17,7 +17,8 @@ words-preserved c =
     let state = c.args.state.now in (
       search (rules, overwrites),
       digest_more c.words.bytes (lane c.args.j state) _ c.words.i _ c.words.invariant.1 (omega arith)
-          (c.copy_from_slice.ensures.after ∙ c.to_be_bytes.ensures ∙ ap (to_be_bytes w32) (sym (lane_at state c.args.j c.words.i (omega arith)))),
+          (c.copy_from_slice.ensures.after ∙ c.to_be_bytes.ensures
+          ∙ ap (to_be_bytes w32) (sym (lane_at state c.args.j c.words.i (omega arith)))),
     )
 
 pub returns : goal.returns
