@@ -43,8 +43,8 @@ filled-none bytes len k n blocks below past =
     sym (rw (size, rest) (take-replicate n (4096 * blocks - m - (4096 * k - m)) 0 (omega arith)))
 
 -- blocks of which some bytes are read
-pub filled-part : (bytes : List ℕ) (len k n blocks size : ℕ) → 4096 * k + n ≤ 4096 * blocks → len ≤ 4096 * blocks → size ≡ min (len - 4096 * k) n
-    → size ≢ 0 → 4096 * k + size ≤ length bytes
+pub filled-part : (bytes : List ℕ) (len k n blocks size : ℕ) → 4096 * k + n ≤ 4096 * blocks → len ≤ 4096 * blocks
+    → size ≡ min (len - 4096 * k) n → size ≢ 0 → 4096 * k + size ≤ length bytes
     → slice_range bytes (4096 * k) (4096 * k + size) ++ replicate (n - size) 0
     ≡ bytes_at (filled blocks (take len bytes)) (4096 * k) n
 filled-part bytes len k n blocks size below few is_size some reaches =
@@ -70,15 +70,16 @@ filled-part bytes len k n blocks size below few is_size some reaches =
       | inr long ↦
           let full : size ≡ n = omega arith in
           let none : n - size ≡ 0 = omega arith in
-          rw (none, full) (append-nil (take n (drop at front)) ∙ sym (take-append-le n (drop at front) (replicate (4096 * blocks - m) 0) (omega arith)))
+          rw (none, full) (append-nil (take n (drop at front))
+          ∙ sym (take-append-le n (drop at front) (replicate (4096 * blocks - m) 0) (omega arith)))
     ])
 
 -- what was read of blocks, with zeros behind it
 pub filled-read : {T E : Type 0} (result : Result T E) (found : Option (List ℕ)) (len k n size : ℕ) (part rest : List ℕ)
     → size ≡ min (len - 4096 * k) n → size ≢ 0 → rest ≡ replicate (n - size) 0
     → OnOk result (Reads found (4096 * k) size part)
-    → IfSome found (λ bytes. OnOk result ((blocks : ℕ) → 4096 * k + n ≤ 4096 * blocks → len ≤ 4096 * blocks
-    → part ++ rest ≡ bytes_at (filled blocks (take len bytes)) (4096 * k) n))
+    → IfSome found (λ bytes. OnOk result ((blocks : ℕ)
+    → 4096 * k + n ≤ 4096 * blocks → len ≤ 4096 * blocks → part ++ rest ≡ bytes_at (filled blocks (take len bytes)) (4096 * k) n))
 filled-read result None len k n size part rest is_size some zeros read = tt
 filled-read (Err e) (Some bytes) len k n size part rest is_size some zeros read = tt
 filled-read (Ok v) (Some bytes) len k n size part rest is_size some zeros read =
@@ -88,8 +89,8 @@ filled-read (Ok v) (Some bytes) len k n size part rest is_size some zeros read =
 pub source-read : {T E : Type 0} (result : Result T E) (told : Option (List Stored)) (path : List ℕ) (len k n size : ℕ) (part rest : List ℕ)
     → size ≡ min (len - 4096 * k) n → size ≢ 0 → rest ≡ replicate (n - size) 0
     → IfSome told (λ files. OnOk result (Reads (content files path) (4096 * k) size part))
-    → IfSome told (λ files. IfSome (content files path) (λ bytes. OnOk result ((blocks : ℕ) → 4096 * k + n ≤ 4096 * blocks → len ≤ 4096 * blocks
-    → part ++ rest ≡ bytes_at (filled blocks (take len bytes)) (4096 * k) n)))
+    → IfSome told (λ files. IfSome (content files path) (λ bytes. OnOk result ((blocks : ℕ)
+    → 4096 * k + n ≤ 4096 * blocks → len ≤ 4096 * blocks → part ++ rest ≡ bytes_at (filled blocks (take len bytes)) (4096 * k) n)))
 source-read result None path len k n size part rest is_size some zeros read = tt
 source-read result (Some files) path len k n size part rest is_size some zeros read =
     filled-read result (content files path) len k n size part rest is_size some zeros read

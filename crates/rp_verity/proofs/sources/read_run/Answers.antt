@@ -20,5 +20,6 @@ returns-clause-bytes g c =
     let some : size ≢ 0 = omega arith in
     let rest : length c.split_at_mut-part.result.1.now ≡ n - size = omega arith in
     let zeros : c.fill.new.self ≡ replicate (n - size) 0 = c.fill.ensures.after (λ y e. e) ∙ ap (λ (n : ℕ). replicate n 0) rest in
-    source-read c.read.result (g.S.Sources.told c.args.sources.now) c.args.path.now c.args.len c.args.k n size c.read.new.buf c.fill.new.self
+    source-read c.read.result (g.S.Sources.told c.args.sources.now) c.args.path.now c.args.len c.args.k n size c.read.new.buf
+    c.fill.new.self
     is_size some zeros c.read.ensures.bytes

@@ -41,7 +41,8 @@ runs-preserved g c =
     let before : min (4 * c.runs.turn) c.args.blocks ≡ k = omega arith in
     let after : min (4 * (c.runs.turn + 1)) c.args.blocks ≡ k + count = omega arith in
     let digests : c.digest_blocks.new.out ≡ map (digest salt) (cut count run) =
-    digests_cut salt run count c.digest_blocks.new.out all (λ i below. c.digest_blocks.ensures.digests i (omega (arith, below, all, kept_all))) in
+    digests_cut salt run count c.digest_blocks.new.out all (λ i below.
+    c.digest_blocks.ensures.digests i (omega (arith, below, all, kept_all))) in
     let strays : Stays (g.S.Sources.told c.runs.sources) c.args.path.now c.args.len (g.S.Sources.strays c.runs.sources) (g.S.Sources.strays c.read_run.new.sources) =
     stays_of _ _ _ _ _ c.read_run.ensures.strays in
     let read : RunOf (g.S.Sources.told c.runs.sources) c.args.path.now c.args.len k (length old) run =
