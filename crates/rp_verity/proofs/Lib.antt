@@ -7,6 +7,7 @@ pub mod ShapeLemmas
 pub mod TreeLemmas
 pub mod Taking
 pub mod Filling
+pub mod Cutting
 pub mod Sourced
 pub mod OrderLemmas
 pub mod Put

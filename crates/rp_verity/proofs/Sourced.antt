@@ -1,16 +1,14 @@
 -- What a builder has taken of a source, where the source tells.
 use Rattle.std.proofs.Common.{◌≡◌, ℕ, ◌+◌, ◌*◌, ◌<◌, ◌≤◌, List, [], ◌∷◌, ◌++◌, length, take, refl, ◌∙◌, arith}
 use Rattle.std.specs.Prelude.{Option, Some, None, Result, false, IfSome, IfOk}
-use Rattle.std.proofs.lemmas.List.{take_at}
-use Rattle.std.proofs.lemmas.List.FromFn.{map-range_with_len_more}
 use Rattle.rp_base.specs.Image.{bytes_at}
 use Rattle.rp_io.specs.declared.stored.Stored.{Stored}
 use Rattle.rp_io.specs.Files.{content, passes}
 use Rattle.rp_verity.specs.declared.builder.Builder.{Builder}
-use Rattle.rp_verity.specs.Builder.{HasTaken, next_of}
+use Rattle.rp_verity.specs.Builder.{HasTaken}
 use Rattle.rp_verity.specs.Tree.{root_hash}
 use Rattle.rp_verity.specs.Filled.{cut, filled}
-use Rattle.rp_verity.specs.Lending.{with_next}
+use Rattle.rp_verity.proofs.Cutting.{cut-more}
 
 -- the builder has taken the first so many blocks of a source
 unfoldable pub TakenFrom : Option (List Stored) → List ℕ → ℕ → ℕ → Builder → List ℕ → ℕ → Type 0
@@ -21,10 +19,10 @@ TakenFrom told path len blocks builder salt k =
 unfoldable pub Stays : Option (List Stored) → List ℕ → ℕ → ℕ → ℕ → Type 0
 Stays told path len old new = IfSome told (λ files. passes (content files path) len ≡ false → new ≡ old)
 
--- a block of a source
-unfoldable pub BlockOf : Option (List Stored) → List ℕ → ℕ → ℕ → List ℕ → Type 0
-BlockOf told path len k block = IfSome told (λ files. IfSome (content files path) (λ bytes.
-    (blocks : ℕ) → k < blocks → len ≤ 4096 * blocks → block ≡ bytes_at (filled blocks (take len bytes)) (4096 * k) 4096))
+-- blocks of a source
+unfoldable pub RunOf : Option (List Stored) → List ℕ → ℕ → ℕ → ℕ → List ℕ → Type 0
+RunOf told path len k n run = IfSome told (λ files. IfSome (content files path) (λ bytes.
+    (blocks : ℕ) → 4096 * k + n ≤ 4096 * blocks → len ≤ 4096 * blocks → run ≡ bytes_at (filled blocks (take len bytes)) (4096 * k) n))
 
 -- what these words say
 pub stays_of : (told : Option (List Stored)) (path : List ℕ) (len old new : ℕ)
@@ -37,12 +35,12 @@ pub stays_says : (told : Option (List Stored)) (path : List ℕ) (len old new : 
 unfolding Stays
 stays_says told path len old new said = said
 
-pub block_of : (told : Option (List Stored)) (path : List ℕ) (len k : ℕ) (block : List ℕ)
+pub run_of : (told : Option (List Stored)) (path : List ℕ) (len k n : ℕ) (run : List ℕ)
     → IfSome told (λ files. IfSome (content files path) (λ bytes.
-    (blocks : ℕ) → k < blocks → len ≤ 4096 * blocks → block ≡ bytes_at (filled blocks (take len bytes)) (4096 * k) 4096))
-    → BlockOf told path len k block
-unfolding BlockOf
-block_of told path len k block said = said
+    (blocks : ℕ) → 4096 * k + n ≤ 4096 * blocks → len ≤ 4096 * blocks → run ≡ bytes_at (filled blocks (take len bytes)) (4096 * k) n))
+    → RunOf told path len k n run
+unfolding RunOf
+run_of told path len k n run said = said
 
 pub stays-none : (told : Option (List Stored)) (path : List ℕ) (len strays : ℕ) → Stays told path len strays strays
 unfolding Stays
@@ -66,36 +64,27 @@ unfolding TakenFrom
 taken-none None path len blocks builder salt has = tt
 taken-none (Some files) path len blocks builder salt has = taken_found (content files path) len blocks builder salt has
 
--- writing to the place of the next block changes nothing that was taken
-pub taken-next : (builder : Builder) (salt : List ℕ) (taken : List (List ℕ)) (bytes : List ℕ) → HasTaken builder salt taken
-    → HasTaken (with_next builder bytes) salt taken
-taken-next builder salt taken bytes has = record { salted = has.salted; pushed = has.pushed; room = has.room; root = has.root }
-
-pub next-next : (builder : Builder) (bytes : List ℕ) → length bytes ≡ length builder.next.items → next_of (with_next builder bytes) ≡ bytes
-next-next builder bytes long = take_at bytes _ (length builder.next.items) long
-
--- one block more
-more_found : (found : Option (List ℕ)) (len blocks k : ℕ) (builder after : Builder) (salt block : List ℕ) → k < blocks → len ≤ 4096 * blocks
-    → IfSome found (λ bytes. HasTaken builder salt (cut k (filled blocks (take len bytes))))
-    → IfSome found (λ bytes. (count : ℕ) → k < count → len ≤ 4096 * count → block ≡ bytes_at (filled count (take len bytes)) (4096 * k) 4096)
-    → ((taken : List (List ℕ)) → HasTaken builder salt taken → HasTaken after salt (taken ++ block ∷ []))
-    → IfSome found (λ bytes. HasTaken after salt (cut (k + 1) (filled blocks (take len bytes))))
-more_found None len blocks k builder after salt block below few has read pushed = tt
-more_found (Some bytes) len blocks k builder after salt block below few has read pushed =
+-- more blocks
+more_found : (found : Option (List ℕ)) (len blocks k count : ℕ) (builder after : Builder) (salt run : List ℕ) → k + count ≤ blocks
+    → len ≤ 4096 * blocks → IfSome found (λ bytes. HasTaken builder salt (cut k (filled blocks (take len bytes))))
+    → IfSome found (λ bytes. (all : ℕ) → 4096 * k + 4096 * count ≤ 4096 * all → len ≤ 4096 * all
+    → run ≡ bytes_at (filled all (take len bytes)) (4096 * k) (4096 * count))
+    → ((taken : List (List ℕ)) → HasTaken builder salt taken → HasTaken after salt (taken ++ cut count run))
+    → IfSome found (λ bytes. HasTaken after salt (cut (k + count) (filled blocks (take len bytes))))
+more_found None len blocks k count builder after salt run fits few has read pushed = tt
+more_found (Some bytes) len blocks k count builder after salt run fits few has read pushed =
     let all : List ℕ = filled blocks (take len bytes) in
-    let here : block ≡ bytes_at all (4096 * k) 4096 = read blocks below few in
-    let more : cut (k + 1) all ≡ cut k all ++ bytes_at all (4096 * k) 4096 ∷ [] =
-    map-range_with_len_more (λ k. bytes_at all (4096 * k) 4096) 0 k k (omega arith) in
-    rw (more, ← here) (pushed (cut k all) has)
+    let here : run ≡ bytes_at all (4096 * k) (4096 * count) = read blocks (omega arith) few in
+    rw (cut-more all k count count (omega arith), ← here) (pushed (cut k all) has)
 
-pub taken-more : (told : Option (List Stored)) (path : List ℕ) (len blocks k : ℕ) (builder after : Builder) (salt block : List ℕ)
-    → k < blocks → len ≤ 4096 * blocks → TakenFrom told path len blocks builder salt k → BlockOf told path len k block
-    → ((taken : List (List ℕ)) → HasTaken builder salt taken → HasTaken after salt (taken ++ block ∷ []))
-    → TakenFrom told path len blocks after salt (k + 1)
-unfolding TakenFrom BlockOf
-taken-more None path len blocks k builder after salt block below few has read pushed = tt
-taken-more (Some files) path len blocks k builder after salt block below few has read pushed =
-    more_found (content files path) len blocks k builder after salt block below few has read pushed
+pub taken-more : (told : Option (List Stored)) (path : List ℕ) (len blocks k count : ℕ) (builder after : Builder) (salt run : List ℕ)
+    → k + count ≤ blocks → len ≤ 4096 * blocks → TakenFrom told path len blocks builder salt k → RunOf told path len k (4096 * count) run
+    → ((taken : List (List ℕ)) → HasTaken builder salt taken → HasTaken after salt (taken ++ cut count run))
+    → TakenFrom told path len blocks after salt (k + count)
+unfolding TakenFrom RunOf
+taken-more None path len blocks k count builder after salt run fits few has read pushed = tt
+taken-more (Some files) path len blocks k count builder after salt run fits few has read pushed =
+    more_found (content files path) len blocks k count builder after salt run fits few has read pushed
 
 -- the root hash of what was taken of a source
 root_found : {E : Type 0} (result : Result (List ℕ) E) (found : Option (List ℕ)) (len blocks : ℕ) (builder : Builder) (salt : List ℕ)

@@ -2,7 +2,7 @@ ghost use Rattle.std.specs.Prelude.{◌≡◌, ◌<◌, ◌≤◌, ◌+◌, ◌*
 ghost use Rattle.std.specs.Borrow.{sem};
 ghost use Rattle.rp_base.specs.Faults.{HasCause};
 ghost use Rattle.rp_base.specs.Trees.{levels};
-ghost use Rattle.rp_verity.specs.Tree.{root_hash, stored_tree};
+ghost use Rattle.rp_verity.specs.Tree.{digest as digest_in_tree, root_hash, stored_tree};
 ghost use Rattle.rp_verity.specs.Order.{full_with, left_over};
 ghost use Rattle.rp_verity.specs.Puts.{Added, AddedPart, placed};
 
@@ -88,8 +88,39 @@ impl<'a> Builder<'a> {
             (K.told out.new)) }
         ensures cause { HasCause (K.faults out.old) (K.faults out.new) result }
     {
+        let digest = digest_of(&self.salted, self.next.as_slice());
+        self.push_digest(digest, out)
+    }
+
+    /// Takes the next data block by its digest, and puts the hash blocks that are full with it. After `Failed` the builder
+    /// may only be dropped.
+    pub(crate) fn push_digest<K: TreeOut>(
+        &mut self,
+        digest: [u8; DIGEST],
+        out: &mut K,
+    ) -> Result<(), Failed>
+        requires builder { IsBuilder self.old }
+        requires more { pushed_of self.old < blocks_of self.old }
+        ensures builder { OnOk result (IsBuilder self.new) }
+        ensures blocks { blocks_of self.new ≡ blocks_of self.old }
+        ensures pushed { pushed_of self.new ≡ pushed_of self.old + 1 }
+        ensures taken { (salt block : List ℕ) (taken : List (List ℕ)) → HasTaken self.old salt taken → digest ≡ digest_in_tree salt block
+            → OnOk result (HasTaken self.new salt (taken ++ block ∷ [])) }
+        ensures puts { (salt block : List ℕ) (taken rest : List (List ℕ)) → HasTaken self.old salt taken → digest ≡ digest_in_tree salt block
+            → length (taken ++ block ∷ [] ++ rest) ≡ blocks_of self.old
+            → OnOk result (Added (K.told out.old)
+            (placed (stored_tree salt (taken ++ block ∷ [] ++ rest))
+            (full_with (levels (blocks_of self.old)) (blocks_of self.old) (length taken + 1)))
+            (K.told out.new)) }
+        ensures cut { (salt block : List ℕ) (taken rest : List (List ℕ)) → HasTaken self.old salt taken → digest ≡ digest_in_tree salt block
+            → length (taken ++ block ∷ [] ++ rest) ≡ blocks_of self.old
+            → OnErr result (AddedPart (K.told out.old)
+            (placed (stored_tree salt (taken ++ block ∷ [] ++ rest))
+            (full_with (levels (blocks_of self.old)) (blocks_of self.old) (length taken + 1)))
+            (K.told out.new)) }
+        ensures cause { HasCause (K.faults out.old) (K.faults out.new) result }
+    {
         let salted = copy_of(&self.salted);
-        let digest = digest_of(&salted, self.next.as_slice());
         let (count, blocks, before) = (self.count, self.blocks, self.pushed);
         self.pushed += 1;
         let top = add(&salted, count, self.levels, blocks, before, digest, out)?;

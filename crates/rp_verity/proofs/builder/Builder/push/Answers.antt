@@ -1,83 +1,19 @@
--- What adding a digest does, said of blocks.
-use Rattle.std.proofs.Common.{◌≡◌, ℕ, List, [], ◌∷◌, length, map, sym, ◌∙◌, ap, arith, length-append}
-use Rattle.std.proofs.lemmas.List.{length-map}
-use Rattle.sha2.specs.Hashers.{Holds256}
+-- The block is taken by its digest.
+use Rattle.std.proofs.Common.{◌≡◌, ◌∙◌, ap}
 use Rattle.rp_verity.specs.Tree.{digest}
-use Rattle.rp_verity.proofs.Added.{on_err_always}
-use Rattle.rp_verity.proofs.Blocks.{are_digests, length-digest}
-use Rattle.rp_verity.proofs.Taking.{digests_more, puts_taken, root_none, root_some}
 use Rattle.rp_verity.proofs.builder.Builder.push.Goals as goal
 
-pub returns-in_err-top-clause-cut : goal.returns-in_err-top-clause-cut
-returns-in_err-top-clause-cut g c salt taken rest has all =
-    let next : List ℕ = c.args.self.now.next.items in
-    let count : ℕ = c.args.self.now.count in
-    let blocks : ℕ = c.args.self.now.blocks in
-    let digests : List (List ℕ) = map (digest salt) taken in
-    let salted : Holds256 c.copy_of-salted.result salt = rw c.copy_of-salted.ensures has.salted in
-    let new : c.digest_of-digest.result ≡ digest salt next = c.digest_of-digest.ensures salt salted ∙ ap (digest salt) c.as_slice.ensures.value in
-    let adds = c.in_err-top.ensures.adds salt digests salted (are_digests salt taken) (ap length new ∙ length-digest salt next)
-    (length-map taken (digest salt) ∙ sym has.pushed) in
-    on_err_always c.from_residual.result (rw (new, puts_taken salt count blocks taken rest next c.requires.builder.count all) at (adds.cut has.room))
+pub returns-clause-taken : goal.returns-clause-taken
+returns-clause-taken g c salt taken has =
+    c.push_digest.ensures.taken salt c.args.self.now.next.items taken has
+    (c.digest_of-digest.ensures salt has.salted ∙ ap (digest salt) c.as_slice.ensures.value)
 
-pub returns-in-Some-clause-taken : goal.returns-in-Some-clause-taken
-returns-in-Some-clause-taken g c salt taken has =
-    let next : List ℕ = c.args.self.now.next.items in
-    let count : ℕ = c.args.self.now.count in
-    let blocks : ℕ = c.args.self.now.blocks in
-    let digests : List (List ℕ) = map (digest salt) taken in
-    let salted : Holds256 c.copy_of-salted.result salt = rw c.copy_of-salted.ensures has.salted in
-    let new : c.digest_of-digest.result ≡ digest salt next = c.digest_of-digest.ensures salt salted ∙ ap (digest salt) c.as_slice.ensures.value in
-    let adds = c.in_ok-top.ensures.adds salt digests salted (are_digests salt taken) (ap length new ∙ length-digest salt next)
-    (length-map taken (digest salt) ∙ sym has.pushed) in
-    let tops = rw (new, c.in-Some.is) at (adds.top has.room) in
-    record {
-      salted = has.salted;
-      pushed = omega (arith, has.pushed, length-append taken (next ∷ []));
-      room = rw (new, digests_more salt taken next) at (adds.held has.room);
-      root = λ front top e.
-          root_some salt count digests (digest salt next) c.in-Some.root tops front top (rw (digests_more salt taken next) e);
-    }
+pub returns-clause-puts : goal.returns-clause-puts
+returns-clause-puts g c salt taken rest has all =
+    c.push_digest.ensures.puts salt c.args.self.now.next.items taken rest has
+    (c.digest_of-digest.ensures salt has.salted ∙ ap (digest salt) c.as_slice.ensures.value) all
 
-pub returns-in-Some-clause-puts : goal.returns-in-Some-clause-puts
-returns-in-Some-clause-puts g c salt taken rest has all =
-    let next : List ℕ = c.args.self.now.next.items in
-    let count : ℕ = c.args.self.now.count in
-    let blocks : ℕ = c.args.self.now.blocks in
-    let digests : List (List ℕ) = map (digest salt) taken in
-    let salted : Holds256 c.copy_of-salted.result salt = rw c.copy_of-salted.ensures has.salted in
-    let new : c.digest_of-digest.result ≡ digest salt next = c.digest_of-digest.ensures salt salted ∙ ap (digest salt) c.as_slice.ensures.value in
-    let adds = c.in_ok-top.ensures.adds salt digests salted (are_digests salt taken) (ap length new ∙ length-digest salt next)
-    (length-map taken (digest salt) ∙ sym has.pushed) in
-    rw (new, puts_taken salt count blocks taken rest next c.requires.builder.count all) at (adds.puts has.room)
-
-pub returns-in_default-clause-taken : goal.returns-in_default-clause-taken
-returns-in_default-clause-taken g c salt taken has =
-    let next : List ℕ = c.args.self.now.next.items in
-    let count : ℕ = c.args.self.now.count in
-    let blocks : ℕ = c.args.self.now.blocks in
-    let digests : List (List ℕ) = map (digest salt) taken in
-    let salted : Holds256 c.copy_of-salted.result salt = rw c.copy_of-salted.ensures has.salted in
-    let new : c.digest_of-digest.result ≡ digest salt next = c.digest_of-digest.ensures salt salted ∙ ap (digest salt) c.as_slice.ensures.value in
-    let adds = c.in_ok-top.ensures.adds salt digests salted (are_digests salt taken) (ap length new ∙ length-digest salt next)
-    (length-map taken (digest salt) ∙ sym has.pushed) in
-    let tops = rw (new, c.in_default.is) at (adds.top has.room) in
-    record {
-      salted = has.salted;
-      pushed = omega (arith, has.pushed, length-append taken (next ∷ []));
-      room = rw (new, digests_more salt taken next) at (adds.held has.room);
-      root = λ front top e.
-          root_none salt count digests (digest salt next) c.args.self.now.root has.root tops front top (rw (digests_more salt taken next) e);
-    }
-
-pub returns-in_default-clause-puts : goal.returns-in_default-clause-puts
-returns-in_default-clause-puts g c salt taken rest has all =
-    let next : List ℕ = c.args.self.now.next.items in
-    let count : ℕ = c.args.self.now.count in
-    let blocks : ℕ = c.args.self.now.blocks in
-    let digests : List (List ℕ) = map (digest salt) taken in
-    let salted : Holds256 c.copy_of-salted.result salt = rw c.copy_of-salted.ensures has.salted in
-    let new : c.digest_of-digest.result ≡ digest salt next = c.digest_of-digest.ensures salt salted ∙ ap (digest salt) c.as_slice.ensures.value in
-    let adds = c.in_ok-top.ensures.adds salt digests salted (are_digests salt taken) (ap length new ∙ length-digest salt next)
-    (length-map taken (digest salt) ∙ sym has.pushed) in
-    rw (new, puts_taken salt count blocks taken rest next c.requires.builder.count all) at (adds.puts has.room)
+pub returns-clause-cut : goal.returns-clause-cut
+returns-clause-cut g c salt taken rest has all =
+    c.push_digest.ensures.cut salt c.args.self.now.next.items taken rest has
+    (c.digest_of-digest.ensures salt has.salted ∙ ap (digest salt) c.as_slice.ensures.value) all
