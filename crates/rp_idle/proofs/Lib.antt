@@ -1,0 +1,12 @@
+mod Again
+mod Extents
+mod Idle
+mod Kept
+mod Lists
+mod Matched
+mod Named
+mod Rows
+mod Settled
+mod Sizes
+mod Stepless
+mod Wanted
