@@ -63,7 +63,8 @@ answered None ys areas is = let e : ◌≡◌ {A = Result (List Area) AreaFault}
 answered (Some r) ys areas is = absurd (let e : ◌≡◌ {A = Result (List Area) AreaFault} (Err (Existing r.file r.need r.have))
     (Ok areas) = is in cc)
 
-module _ (seen : Seen) (target : ℕ) (defs : List Definition) (facts : List Fact) (seed : Guid) (areas : List Area) (placed : Placed) (plan : Plan)
+module _ (seen : Seen) (target : ℕ) (defs : List Definition) (facts : List Fact) (seed : Guid) (areas : List Area) (placed : Placed)
+    (plan : Plan)
     (given : IsGiven seen target defs (matched_of seen.shown defs)) (made : IsMadeOf seen target defs facts seed areas placed plan)
     (whole : plan.dropped ≡ []) (others : List Fact) where
   abbrev own : List (Option ℕ)
@@ -95,7 +96,8 @@ module _ (seen : Seen) (target : ℕ) (defs : List Definition) (facts : List Fac
   before_area = area_before seen.shown.first (last_of seen target) (rows_by_start seen.shown (matched_of seen.shown defs))
 
   abbrev behind_areas : List Area
-  behind_areas = areas_behind (last_of seen target) (asked (matched_of plan.goal defs) defs others) (rows_by_start seen.shown (matched_of seen.shown defs))
+  behind_areas = areas_behind (last_of seen target) (asked (matched_of plan.goal defs) defs others)
+      (rows_by_start seen.shown (matched_of seen.shown defs))
 
   abbrev before : List Piece
   before = stack (0, before_area)
@@ -121,15 +123,18 @@ module _ (seen : Seen) (target : ℕ) (defs : List Definition) (facts : List Fac
   -- the areas of the first run, by what definitions say themselves
   areas_are : areas ≡ before_area ∷ behind_areas
   areas_are = sym (answered (least_refusal (refusals_of last own_asks rows_now)) (before_area ∷ behind_areas) areas
-      (areas_of_own seen.shown last own asks areas new_ones placed (ready seen target defs facts seed areas placed plan given made) own_asks asked_more ∙ made.are))
+      (areas_of_own seen.shown last own asks areas new_ones placed (ready seen target defs facts seed areas placed plan given made)
+      own_asks asked_more ∙ made.are))
 
   stacks_are : stacks_of seen.shown.rows own asks areas new_ones placed.areas ≡ before ∷ stacks
   stacks_are = ap (λ (list : List Area). map stack (enumerate_from 0 list)) areas_are
 
   filled : IsFilled seen.shown plan.goal last own again own_asks before stacks
-  filled = filled_again seen.shown last own asks areas new_ones placed (ready seen target defs facts seed areas placed plan given made) own_asks asked_more
+  filled = filled_again seen.shown last own asks areas new_ones placed (ready seen target defs facts seed areas placed plan given made)
+      own_asks asked_more
       plan.goal again before stacks
-      (is_named seen target defs facts seed areas placed plan given made).first (is_named seen target defs facts seed areas placed plan given made).last
+      (is_named seen target defs facts seed areas placed plan given made).first
+      (is_named seen target defs facts seed areas placed plan given made).last
       (extents_same seen target defs facts seed areas placed plan given made whole) stacks_are
 
   abbrev next_areas : List Area
@@ -144,7 +149,8 @@ module _ (seen : Seen) (target : ℕ) (defs : List Definition) (facts : List Fac
 
   idle_at : (i : ℕ) (area : Area) (limit : ℕ) → slice_get (before_area ∷ behind_areas) i ≡ Some area → area.span ≡ limit - area.from
       → AreIdle own_asks limit area.from (stack (i, area))
-  idle_at i area limit at long = idle_here seen.shown last own asks areas new_ones placed (ready seen target defs facts seed areas placed plan given made)
+  idle_at i area limit at long = idle_here seen.shown last own asks areas new_ones placed
+      (ready seen target defs facts seed areas placed plan given made)
       own_asks limits asked_more i area (area_at i area at) limit long
 
   settled_areas : All (IsSettled own_asks (extents_of plan.goal.rows again)) next_areas
@@ -181,13 +187,15 @@ module _ (seen : Seen) (target : ℕ) (defs : List Definition) (facts : List Fac
         ∙ ap (λ e. usable_end seen.shown.sector e (target / sector_units seen.shown.sector) - 1) is.entries
 
     table_same : table_laid shown_again target plan.goal.rows ≡ plan.goal
-    table_same = ap (λ n. record plan.goal { last = n }) (last_again ∙ sym (is_named seen target defs facts seed areas placed plan given made).last)
+    table_same = ap (λ n. record plan.goal { last = n }) (last_again
+        ∙ sym (is_named seen target defs facts seed areas placed plan given made).last)
 
     none_new : news_of again own_asks defs ≡ []
     none_new = no_news again defs have own_asks
 
     settled_again : settled next_areas (news_of again own_asks defs) (free_slots plan.goal) ≡ Ok nothing
-    settled_again = ap (λ (ns : List New). settled next_areas ns (free_slots plan.goal)) none_new ∙ nothing_new next_areas (free_slots plan.goal)
+    settled_again = ap (λ (ns : List New). settled next_areas ns (free_slots plan.goal)) none_new
+        ∙ nothing_new next_areas (free_slots plan.goal)
 
     table_again : goal_table shown_again target defs others other own_asks next_areas nothing ≡ Ok plan.goal
     unfolding goal_table spots_of
@@ -201,14 +209,19 @@ module _ (seen : Seen) (target : ℕ) (defs : List Definition) (facts : List Fac
         (kept_files again (pos (2 ^ 31 - 1)) defs) other
 
     -- the goal is a plan with the same table
-    pub goal_again : goal shown_again target defs others other ≡ Ok (plan_with shown_again target defs others other (pos (2 ^ 31 - 1)) plan.goal)
+    pub goal_again : goal shown_again target defs others other ≡ Ok (plan_with shown_again target defs others other (pos (2 ^ 31 - 1))
+        plan.goal)
     unfolding goal plan_asked plan_among plan_placed
     goal_again =
-        ap (λ (o : Option Demand). unless o (plan_asked shown_again target defs others other own_asks)) (no_demand again defs others have given.well_formed)
-        ∙ ap (λ (r : Result (List Area) AreaFault). after area_demand r (λ list. plan_among shown_again target defs others other own_asks list))
+        ap (λ (o : Option Demand). unless o (plan_asked shown_again target defs others other own_asks))
+        (no_demand again defs others have given.well_formed)
+        ∙ ap (λ (r : Result (List Area) AreaFault). after area_demand r
+        (λ list. plan_among shown_again target defs others other own_asks list))
         (ap (λ n. areas_of plan.goal n again own_asks) last_again ∙ areas_again)
-        ∙ ap (λ (r : Result Placed PlaceFault). after place_demand r (λ p. plan_placed shown_again target defs others other own_asks next_areas p)) settled_again
-        ∙ ap (λ (r : Result Table IdentFault). after ident_demand r (λ t. Ok (plan_with shown_again target defs others other (pos (2 ^ 31 - 1)) t))) table_again
+        ∙ ap (λ (r : Result Placed PlaceFault). after place_demand r (λ p. plan_placed shown_again target defs others other own_asks
+        next_areas p)) settled_again
+        ∙ ap (λ (r : Result Table IdentFault). after ident_demand r (λ t. Ok
+        (plan_with shown_again target defs others other (pos (2 ^ 31 - 1)) t))) table_again
 
     -- which drops nothing
     pub none_dropped_again : dropped_files again (pos (2 ^ 31 - 1)) defs ≡ []

@@ -50,7 +50,8 @@ reach_again (r ∷ rows) matched n = ap (λ es. (r.start, r.size) ∷ es) (reach
 -- lists of rows with the same units and definitions are the same
 one_extent : (e f : Extent) → reach e ≡ reach f → e.file ≡ f.file → e ≡ f
 one_extent e f same file =
-    ap (λ (r : ℕ × ℕ). record { start = r.0; size = r.1; file = e.file }) same ∙ ap (λ (o : Option ℕ). record { start = f.start; size = f.size; file = o }) file
+    ap (λ (r : ℕ × ℕ). record { start = r.0; size = r.1; file = e.file }) same
+    ∙ ap (λ (o : Option ℕ). record { start = f.start; size = f.size; file = o }) file
 
 same_extents : (es fs : List Extent) → map reach es ≡ map reach fs → map file_in es ≡ map file_in fs → es ≡ fs
 same_extents [] [] same files = refl
@@ -64,7 +65,8 @@ same_extents (e ∷ es) (f ∷ fs) same files =
     ap (λ x. x ∷ es) (one_extent e f head file) ∙ ap (λ xs. f ∷ xs) (same_extents es fs rest others)
 
 -- the files of so many places: those of the first ones, and then others
-split_files : {K : Type 0} (f g : ℕ → Option ℕ) (h : K → Option ℕ) (n m : ℕ) (old again : List Row) (kept : List K) → length again ≡ length old + length kept
+split_files : {K : Type 0} (f g : ℕ → Option ℕ) (h : K → Option ℕ) (n m : ℕ) (old again : List Row) (kept : List K)
+    → length again ≡ length old + length kept
     → m ≡ n + length old
     → ((k : ℕ) → n ≤ k → k < m → f k ≡ g k) → ((j : ℕ) (e : K) → slice_get kept j ≡ Some e → f (m + j) ≡ h e)
     → map (λ (e : ℕ × Row). f e.0) (enumerate_from n again) ≡ map (λ (e : ℕ × Row). g e.0) (enumerate_from n old) ++ map h kept
@@ -89,16 +91,19 @@ files_are : (matched : List (Option ℕ)) (n : ℕ) (rows : List Row)
 files_are matched n rows = map_same file_in (extent_of matched) (λ (e : ℕ × Row). file_of matched e.0) (λ e. refl) (enumerate_from n rows)
 
 -- of new ones that all lie somewhere
-new_files_step : (spots : List (Option Spot)) (b le : Bool) (k : ℕ) (def : Definition) (need : ℕ) (rest : List (ℕ × Definition)) (news : List New)
+new_files_step : (spots : List (Option Spot)) (b le : Bool) (k : ℕ) (def : Definition) (need : ℕ) (rest : List (ℕ × Definition))
+    (news : List New)
     → (b ≡ true → le ≡ true → (s : Spot) × (spot_at spots k ≡ Some s)) → (b ≡ true → le ≡ true)
     → map file_in (filter_map (added spots) news) ≡ map (λ (e : ℕ × Definition). Some e.0) rest
-    → map file_in (filter_map (added spots) (cons_option (cond b (Some (record { file = k; need = need; priority = def.priority })) None) news))
+    → map file_in (filter_map (added spots) (cons_option (cond b (Some (record { file = k; need = need; priority = def.priority })) None)
+    news))
     ≡ map (λ (e : ℕ × Definition). Some e.0) (cond (b && le) ((k, def) ∷ rest) rest)
 new_files_step spots false le k def need rest news has kept is = is
 new_files_step spots true false k def need rest news has kept is = absurd (let e : false ≡ true = kept refl in cc)
 new_files_step spots true true k def need rest news has kept is =
     let found = has refl refl in
-    ap (λ (o : Option Spot). map file_in (cons_option (option_map (λ (s : Spot). record { start = s.start; size = s.size; file = Some k }) o) (filter_map (added spots) news))) found.1
+    ap (λ (o : Option Spot). map file_in (cons_option (option_map (λ (s : Spot). record { start = s.start; size = s.size; file = Some k })
+    o) (filter_map (added spots) news))) found.1
     ∙ ap (λ os. Some k ∷ os) is
 
 new_files : (spots : List (Option Spot)) (matched : List (Option ℕ)) (wants : List Want) (t : ℤ) (n : ℕ) (defs : List Definition)
@@ -113,7 +118,8 @@ new_files spots matched wants t n (def ∷ defs) lie =
     (λ new le. (lie 0 n def (omega arith) refl new).0.0 le) (λ new. (lie 0 n def (omega arith) refl new).1)
     (new_files spots matched wants t (n + 1) defs (λ j k d e at new. lie (suc j) k d (omega (arith, e)) at new))
 
-module _ (seen : Seen) (target : ℕ) (defs : List Definition) (facts : List Fact) (seed : Guid) (areas : List Area) (placed : Placed) (plan : Plan)
+module _ (seen : Seen) (target : ℕ) (defs : List Definition) (facts : List Fact) (seed : Guid) (areas : List Area) (placed : Placed)
+    (plan : Plan)
     (given : IsGiven seen target defs (matched_of seen.shown defs)) (made : IsMadeOf seen target defs facts seed areas placed plan)
     (whole : plan.dropped ≡ []) where
   abbrev own : List (Option ℕ)
@@ -140,7 +146,8 @@ module _ (seen : Seen) (target : ℕ) (defs : List Definition) (facts : List Fac
       ∙ rows_reach seen.shown.rows own (wants seen target defs facts seed areas placed plan given made) placed.threshold defs place
       (lies seen target defs facts seed areas placed plan given made)
 
-  is_taken : (j : ℕ) (e : ℕ × Definition) → slice_get kept j ≡ Some e → (slice_get defs e.0 ≡ Some e.1) × (is_kept own placed.threshold e ≡ true)
+  is_taken : (j : ℕ) (e : ℕ × Definition) → slice_get kept j ≡ Some e
+      → (slice_get defs e.0 ≡ Some e.1) × (is_kept own placed.threshold e ≡ true)
   is_taken j e at = subst (λ (x : ℕ × Definition). (slice_get defs x.0 ≡ Some x.1) × (is_kept own placed.threshold x ≡ true))
       (get_or_from_slice_get kept j e e at) (kept_entries own placed.threshold defs j e (slice_get_within kept j e at))
 
@@ -157,7 +164,8 @@ module _ (seen : Seen) (target : ℕ) (defs : List Definition) (facts : List Fac
       let fresh = (and_both (is_new own e.0) (int_le e.1.priority placed.threshold) is.1).0 in
       let free = no_row_of own e.0 (omega (arith, slice_get_within defs e.0 e.1 is.0, matched_length seen target defs own given)) fresh in
       let none = none_dropped seen target defs facts seed areas placed plan given made whole in
-      let rank : Some (without own e.0) ≡ Some j = sym (kept_place own placed.threshold defs none e.0 e.1 is.0 free) ∙ rank_is own placed.threshold defs j e at in
+      let rank : Some (without own e.0) ≡ Some j = sym (kept_place own placed.threshold defs none e.0 e.1 is.0 free)
+      ∙ rank_is own placed.threshold defs j e at in
       let same : without own e.0 ≡ j = same_Some (without own e.0) j rank in
       ap (λ p. file_of again (length seen.shown.rows + p)) (sym same)
       ∙ owner_new seen.shown.rows plan.goal.rows (kinds_of defs) (refilled seen target defs facts seed areas placed plan given made whole)
@@ -168,14 +176,18 @@ module _ (seen : Seen) (target : ℕ) (defs : List Definition) (facts : List Fac
   files_same =
       let none = none_dropped seen target defs facts seed areas placed plan given made whole in
       files_are again 0 plan.goal.rows
-      ∙ split_files (file_of again) (file_of own) (λ (e : ℕ × Definition). Some e.0) 0 (length seen.shown.rows) seen.shown.rows plan.goal.rows kept
+      ∙ split_files (file_of again) (file_of own) (λ (e : ℕ × Definition). Some e.0) 0 (length seen.shown.rows) seen.shown.rows
+      plan.goal.rows kept
       goal_count (sym (zero-add (length seen.shown.rows)))
-      (λ k low below. owner_old seen.shown.rows plan.goal.rows (kinds_of defs) (refilled seen target defs facts seed areas placed plan given made whole) k below)
+      (λ k low below. owner_old seen.shown.rows plan.goal.rows (kinds_of defs)
+      (refilled seen target defs facts seed areas placed plan given made whole) k below)
       new_file
-      ∙ ap (λ fs. fs ++ map (λ (e : ℕ × Definition). Some e.0) kept) (sym (map_same file_in (grown place) file_in (λ e. refl) (extents_of seen.shown.rows own)
+      ∙ ap (λ fs. fs ++ map (λ (e : ℕ × Definition). Some e.0) kept) (sym
+      (map_same file_in (grown place) file_in (λ e. refl) (extents_of seen.shown.rows own)
       ∙ files_are own 0 seen.shown.rows))
       ∙ ap (λ fs. map file_in (map (grown place) (extents_of seen.shown.rows own)) ++ fs)
-      (sym (new_files place own (wants seen target defs facts seed areas placed plan given made) placed.threshold 0 defs (λ j k def e at new.
+      (sym (new_files place own (wants seen target defs facts seed areas placed plan given made) placed.threshold 0 defs
+      (λ j k def e at new.
       let same : k ≡ j = omega (arith, e) in
       let here : slice_get defs k ≡ Some def = ap (slice_get defs) same ∙ at in (
         lies seen target defs facts seed areas placed plan given made k def here new,

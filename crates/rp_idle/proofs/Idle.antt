@@ -45,7 +45,8 @@ use Rattle.rp_idle.proofs.Matched.{all_matched, old_again}
 use Rattle.rp_idle.proofs.Wanted.{no_needs}
 
 -- what is seen of an accepted image can be planned for
-plannable : (sector : ℕ) (old : List ℕ) (empty : Empty) (seen : Seen) (target : ℕ) (defs : List Definition) (facts : List Fact) (seed : Guid)
+plannable : (sector : ℕ) (old : List ℕ) (empty : Empty) (seen : Seen) (target : ℕ) (defs : List Definition) (facts : List Fact)
+    (seed : Guid)
     (plan : Plan) → IsPlanned sector old empty seen target defs facts seed plan → IsPlannable seen × (seen.shown.sector ≡ sector)
 plannable sector old empty seen target defs facts seed plan is =
     let both = accepted_seen sector old empty seen is.of_sector is.bytes is.seen_of in (
@@ -69,7 +70,8 @@ no_facts needs none = record {
   roots = sym (ap (map (λ (n : Need). n.pair)) none);
 }
 
-module _ (seen : Seen) (target : ℕ) (defs : List Definition) (facts : List Fact) (seed : Guid) (plan : Plan) (is_plannable : IsPlannable seen)
+module _ (seen : Seen) (target : ℕ) (defs : List Definition) (facts : List Fact) (seed : Guid) (plan : Plan)
+    (is_plannable : IsPlannable seen)
     (aim : IsTarget seen.shown.sector seen.sectors target) (wf : AreWellFormed defs) (is : goal seen target defs facts seed ≡ Ok plan)
     (whole : plan.dropped ≡ []) where
   made : (areas : List Area) × (placed : Placed) × IsMadeOf seen target defs facts seed areas placed plan
@@ -92,7 +94,14 @@ module _ (seen : Seen) (target : ℕ) (defs : List Definition) (facts : List Fac
   pub bounds : plan.goal.first ≤ plan.goal.last
   bounds =
       let named = is_named seen target defs facts seed made.0 made.1 plan given made.2 in
-      omega (arith, named.first, named.last, is_plannable.in_place.bounds, (last_bounds seen target defs (matched_of seen.shown defs) given).0)
+      omega (
+        arith,
+        named.first,
+        named.last,
+        is_plannable.in_place.bounds,
+        (last_bounds seen target defs (matched_of seen.shown defs)
+            given).0,
+      )
 
   abbrev after : Seen
   after = seen_after seen plan
@@ -107,7 +116,8 @@ module _ (seen : Seen) (target : ℕ) (defs : List Definition) (facts : List Fac
 
   -- the goal for the goal's table is a plan for it that drops nothing
   abbrev pub IsAgain : List Fact → Guid → Seen → Type 0
-  IsAgain others other again = (next : Plan) × (goal again target defs others other ≡ Ok next) × (next.goal ≡ plan.goal) × (next.target ≡ target)
+  IsAgain others other again = (next : Plan) × (goal again target defs others other ≡ Ok next) × (next.goal ≡ plan.goal) ×
+      (next.target ≡ target)
       × (next.dropped ≡ [])
 
   pub goal_stays : (again : Seen) (others : List Fact) (other : Guid) → again.shown ≡ plan.goal → IsAgain others other again
@@ -155,7 +165,8 @@ module _ (seen : Seen) (target : ℕ) (defs : List Definition) (facts : List Fac
     mbr = right_mbr seen.mbr;
   }) fits_again
 
-module _ (sector : ℕ) (old : List ℕ) (empty : Empty) (seen : Seen) (target : ℕ) (defs : List Definition) (facts : List Fact) (seed : Guid) (plan : Plan)
+module _ (sector : ℕ) (old : List ℕ) (empty : Empty) (seen : Seen) (target : ℕ) (defs : List Definition) (facts : List Fact) (seed : Guid)
+    (plan : Plan)
     (is : IsPlanned sector old empty seen target defs facts seed plan) where
   ready : IsPlannable seen
   ready = (plannable sector old empty seen target defs facts seed plan is).0
@@ -172,13 +183,16 @@ module _ (sector : ℕ) (old : List ℕ) (empty : Empty) (seen : Seen) (target :
   }
 
   -- the image that the calls leave
-  pub idle_after : (body calls : List Call) → plan.dropped ≡ [] → AreCallsOf seen plan body calls → IsIdle sector (all_done old calls) defs seed
+  pub idle_after : (body calls : List Call) → plan.dropped ≡ [] → AreCallsOf seen plan body calls
+      → IsIdle sector (all_done old calls) defs seed
   idle_after body calls whole are =
       let low = bounds seen target defs facts seed plan ready aims is.definitions is.goal_is whole in record {
         seen = seen_after seen plan;
         plan = plan_with (seen_after seen plan) plan.target defs [] seed (pos (2 ^ 31 - 1)) plan.goal;
-        shows = subst (λ z. accepted z (all_done old calls) Refuse ≡ Ok (seen_after seen plan)) (plan-sector sector old empty seen plan plan_for)
-            (accepted_after old seen plan (plan-given sector old empty seen plan plan_for) body calls are low Refuse (λ e. let f : Refuse ≡ Require = e in cc));
+        shows = subst (λ z. accepted z (all_done old calls) Refuse ≡ Ok (seen_after seen plan))
+            (plan-sector sector old empty seen plan plan_for)
+            (accepted_after old seen plan (plan-given sector old empty seen plan plan_for) body calls are low Refuse
+            (λ e. let f : Refuse ≡ Require = e in cc));
         matched = each_matched seen target defs facts seed plan ready aims is.definitions is.goal_is whole;
         goal_is = next_is seen target defs facts seed plan ready aims is.definitions is.goal_is whole;
         steps_are = no_steps_again seen target defs facts seed plan ready aims is.definitions is.goal_is whole;
@@ -189,4 +203,5 @@ module _ (sector : ℕ) (old : List ℕ) (empty : Empty) (seen : Seen) (target :
       → Fills old plan contents body → IsFinal old seen plan contents image → IsIdle sector image defs seed
   idle_final body calls contents image whole are fills_it final_is =
       let done = final old seen plan (plan-given sector old empty seen plan plan_for) body calls are contents fills_it in
-      subst (λ i. IsIdle sector i defs seed) (one_final old seen plan contents (all_done old calls) image done final_is) (idle_after body calls whole are)
+      subst (λ i. IsIdle sector i defs seed) (one_final old seen plan contents (all_done old calls) image done final_is)
+      (idle_after body calls whole are)

@@ -5,6 +5,7 @@ mod Kept
 mod Lists
 mod Matched
 mod Named
+pub mod Public
 mod Rows
 mod Settled
 mod Sizes

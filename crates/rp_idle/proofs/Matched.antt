@@ -21,7 +21,8 @@ use Rattle.rp_idle.proofs.Kept.{kept_place}
 use Rattle.rp_idle.proofs.Lists.{no_past}
 use Rattle.rp_idle.proofs.Rows.{none_dropped, refilled}
 
-module _ (seen : Seen) (target : ℕ) (defs : List Definition) (facts : List Fact) (seed : Guid) (areas : List Area) (placed : Placed) (plan : Plan)
+module _ (seen : Seen) (target : ℕ) (defs : List Definition) (facts : List Fact) (seed : Guid) (areas : List Area) (placed : Placed)
+    (plan : Plan)
     (given : IsGiven seen target defs (matched_of seen.shown defs)) (made : IsMadeOf seen target defs facts seed areas placed plan)
     (whole : plan.dropped ≡ []) where
   abbrev own : List (Option ℕ)
@@ -48,17 +49,20 @@ module _ (seen : Seen) (target : ℕ) (defs : List Definition) (facts : List Fac
   place_by file def at (Some p) has = (
     p,
     (
-      matched_old seen.shown.rows plan.goal.rows (kinds_of defs) (refilled seen target defs facts seed areas placed plan given made whole) file p has,
+      matched_old seen.shown.rows plan.goal.rows (kinds_of defs) (refilled seen target defs facts seed areas placed plan given made whole)
+          file p has,
       ap (λ o. option_or o (option_map (λ rank. rows + rank) (rank_in files file))) (get_or_from_slice_get own file (Some p) None has),
     ),
   )
   place_by file def at None has = (
     rows + without own file,
     (
-      matched_new seen.shown.rows plan.goal.rows (kinds_of defs) (refilled seen target defs facts seed areas placed plan given made whole) file def.kind
+      matched_new seen.shown.rows plan.goal.rows (kinds_of defs) (refilled seen target defs facts seed areas placed plan given made whole)
+          file def.kind
           (kind_at file def at) has,
       ap (λ o. option_or o (option_map (λ rank. rows + rank) (rank_in files file))) (get_or_from_slice_get own file None None has)
-          ∙ ap (option_map (λ rank. rows + rank)) (kept_place own placed.threshold defs (none_dropped seen target defs facts seed areas placed plan given made whole)
+          ∙ ap (option_map (λ rank. rows + rank)) (kept_place own placed.threshold defs
+          (none_dropped seen target defs facts seed areas placed plan given made whole)
           file def at has),
     ),
   )

@@ -43,7 +43,8 @@ label_begins : (kind : Guid) → slice_index (label_of kind) 0 ≢ 0
 unfolding label_of
 label_begins kind = padded-begins 36 (unwrap_or (by_guid kind) (guid_text kind)) (text_begins kind (by_guid kind) refl)
 
-own_label : (kind : Guid) (o : Option (List ℕ)) → IfSome o (λ units. slice_index units 0 ≢ 0) → slice_index (unwrap_or o (label_of kind)) 0 ≢ 0
+own_label : (kind : Guid) (o : Option (List ℕ)) → IfSome o (λ units. slice_index units 0 ≢ 0)
+    → slice_index (unwrap_or o (label_of kind)) 0 ≢ 0
 own_label kind None is = label_begins kind
 own_label kind (Some label) is = is
 
@@ -62,11 +63,13 @@ answer_holds P f n [] all k m x y e at is = absurd (cc)
 answer_holds P f n (z ∷ xs) all zero m x y e at is =
     let same : z ≡ x = cc in
     let place : m ≡ n = omega (arith, e) in
-    first_answer P (f (n, z)) (filter_map f (enumerate_from (n + 1) xs)) y all (ap (λ w. f (n, w)) same ∙ ap (λ p. f (p, x)) (sym place) ∙ is)
+    first_answer P (f (n, z)) (filter_map f (enumerate_from (n + 1) xs)) y all (ap (λ w. f (n, w)) same ∙ ap (λ p. f (p, x)) (sym place)
+    ∙ is)
 answer_holds P f n (z ∷ xs) all (suc k) m x y e at is =
     answer_holds P f (n + 1) xs (other_answers P (f (n, z)) (filter_map f (enumerate_from (n + 1) xs)) all) k m x y (omega (arith, e)) at is
 
-module _ (seen : Seen) (target : ℕ) (defs : List Definition) (facts : List Fact) (seed : Guid) (areas : List Area) (placed : Placed) (plan : Plan)
+module _ (seen : Seen) (target : ℕ) (defs : List Definition) (facts : List Fact) (seed : Guid) (areas : List Area) (placed : Placed)
+    (plan : Plan)
     (given : IsGiven seen target defs (matched_of seen.shown defs)) (made : IsMadeOf seen target defs facts seed areas placed plan)
     (whole : plan.dropped ≡ []) where
   abbrev own : List (Option ℕ)
@@ -79,25 +82,35 @@ module _ (seen : Seen) (target : ℕ) (defs : List Definition) (facts : List Fac
   files = kept_files (matched_of seen.shown defs) placed.threshold defs
 
   abbrev namings : List Naming
-  namings = namings_of facts (matched_of seen.shown defs) (length seen.shown.rows) (kept_files (matched_of seen.shown defs) placed.threshold defs) defs
+  namings = namings_of facts (matched_of seen.shown defs) (length seen.shown.rows)
+      (kept_files (matched_of seen.shown defs) placed.threshold defs) defs
 
   was_named : named (table_laid seen target (rows seen target defs facts seed areas placed plan given made)) namings seed ≡ Ok plan.goal
   unfolding goal_table spots_of
   was_named = made.table
 
   labels : All (λ (n : Naming). slice_index n.label 0 ≢ 0) namings
-  labels = All-answers (λ (n : Naming). slice_index n.label 0 ≢ 0) (naming_of facts own (length seen.shown.rows) files) 0 defs (λ k m def e at.
-      labeled_by m def (own_label def.kind def.label (sound_at defs k def given.well_formed at).label) (place_in own (length seen.shown.rows) files m))
+  labels = All-answers (λ (n : Naming). slice_index n.label 0 ≢ 0) (naming_of facts own (length seen.shown.rows) files) 0 defs
+      (λ k m def e at.
+      labeled_by m def (own_label def.kind def.label (sound_at defs k def given.well_formed at).label)
+      (place_in own (length seen.shown.rows) files m))
     where
       labeled_by : (m : ℕ) (def : Definition) → slice_index (unwrap_or def.label (label_of def.kind)) 0 ≢ 0 → (o : Option ℕ)
-          → IfSome (option_map (λ row. record { row = row; file = m; label = unwrap_or def.label (label_of def.kind); fixed = option_or def.id (half_id facts m def.verity) }) o)
+          → IfSome (option_map (λ row. record {
+            row = row;
+            file = m;
+            label = unwrap_or def.label (label_of def.kind);
+            fixed = option_or
+                def.id (half_id facts m def.verity);
+          }) o)
           (λ (n : Naming). slice_index n.label 0 ≢ 0)
       labeled_by m def is None = tt
       labeled_by m def is (Some row) = is
 
   done : All (IsDone plan.goal.rows) namings
   done = named-done (rows seen target defs facts seed areas placed plan given made) namings seed plan.goal.rows labels
-      (named-rows (table_laid seen target (rows seen target defs facts seed areas placed plan given made)) plan.goal namings seed was_named).0
+      (named-rows (table_laid seen target (rows seen target defs facts seed areas placed plan given made)) plan.goal namings seed
+      was_named).0
 
   pub disk_is : is_zero plan.goal.disk ≡ false
   disk_is =
@@ -106,16 +119,36 @@ module _ (seen : Seen) (target : ℕ) (defs : List Definition) (facts : List Fac
       rw disk (disk-some seed seen.shown.disk)
 
   -- the row of a definition is done
-  row_done : (file : ℕ) (def : Definition) (p : ℕ) → slice_get defs file ≡ Some def → place_in own (length seen.shown.rows) files file ≡ Some p
+  row_done : (file : ℕ) (def : Definition) (p : ℕ) → slice_get defs file ≡ Some def
+      → place_in own (length seen.shown.rows) files file ≡ Some p
       → IfSome (slice_get plan.goal.rows p) IsNamed
   row_done file def p at place =
       answer_holds (IsDone plan.goal.rows) (naming_of facts own (length seen.shown.rows) files) 0 defs done file file def
-      (record { row = p; file = file; label = unwrap_or def.label (label_of def.kind); fixed = option_or def.id (half_id facts file def.verity) })
+      (record {
+        row = p;
+        file = file;
+        label = unwrap_or def.label (label_of def.kind);
+        fixed = option_or def.id
+            (half_id facts file def.verity);
+      })
       (sym (zero-add file)) at
-      (ap (option_map (λ row. record { row = row; file = file; label = unwrap_or def.label (label_of def.kind); fixed = option_or def.id (half_id facts file def.verity) })) place)
+      (ap (option_map (λ row. record {
+        row = row;
+        file = file;
+        label = unwrap_or def.label (label_of def.kind);
+        fixed = option_or def.id
+            (half_id facts file def.verity);
+      })) place)
 
-  done_by : (others : List Fact) (m : ℕ) (def : Definition) (o : Option ℕ) (p : ℕ) → o ≡ Some p → IfSome (slice_get plan.goal.rows p) IsNamed
-      → IfSome (option_map (λ row. record { row = row; file = m; label = unwrap_or def.label (label_of def.kind); fixed = option_or def.id (half_id others m def.verity) }) o)
+  done_by : (others : List Fact) (m : ℕ) (def : Definition) (o : Option ℕ) (p : ℕ) → o ≡ Some p
+      → IfSome (slice_get plan.goal.rows p) IsNamed
+      → IfSome (option_map (λ row. record {
+        row = row;
+        file = m;
+        label = unwrap_or def.label (label_of def.kind);
+        fixed = option_or def.id
+            (half_id others m def.verity);
+      }) o)
       (IsDone plan.goal.rows)
   done_by others m def None p is row = absurd (cc)
   done_by others m def (Some q) p is row = let same : q ≡ p = cc in subst (λ n. IfSome (slice_get plan.goal.rows n) IsNamed) (sym same) row
@@ -130,5 +163,6 @@ module _ (seen : Seen) (target : ℕ) (defs : List Definition) (facts : List Fac
       (ap (λ o. option_or o (option_map (λ rank. n + rank) (rank_in kept m))) (get_or_from_slice_get again m (Some row.0) None row.1.0))
       (row_done m def row.0 there row.1.1))
 
-  pub named_again : (others : List Fact) (n : ℕ) (kept : List ℕ) (other : Guid) → named plan.goal (namings_of others again n kept defs) other ≡ Ok plan.goal
+  pub named_again : (others : List Fact) (n : ℕ) (kept : List ℕ) (other : Guid)
+      → named plan.goal (namings_of others again n kept defs) other ≡ Ok plan.goal
   named_again others n kept other = named-same plan.goal (namings_of others again n kept defs) other disk_is (done_again others n kept)

@@ -43,11 +43,14 @@ behind (x ∷ xs) ys zero k is = absurd (omega (arith, is))
 behind (x ∷ xs) ys (suc n) k is =
     ap (slice_get (x ∷ (xs ++ ys))) (let h : suc n + k ≡ suc (n + k) = omega arith in h) ∙ behind xs ys n k (omega (arith, is))
 
-kind_is : (o : Option Definition) (kind : Guid) (def : Definition) → o ≡ Some def → option_map (λ (d : Definition). d.kind) o ≡ Some kind → def.kind ≡ kind
+kind_is : (o : Option Definition) (kind : Guid) (def : Definition) → o ≡ Some def → option_map (λ (d : Definition). d.kind) o ≡ Some kind
+    → def.kind ≡ kind
 kind_is None kind def at is = absurd (cc)
-kind_is (Some d) kind def at is = let same : d ≡ def = cc in let here : d.kind ≡ kind = cc in sym (ap (λ (x : Definition). x.kind) same) ∙ here
+kind_is (Some d) kind def at is = let same : d ≡ def = cc in let here : d.kind ≡ kind = cc in sym (ap (λ (x : Definition). x.kind) same)
+    ∙ here
 
-defined : (o : Option Definition) (kind : Guid) → option_map (λ (d : Definition). d.kind) o ≡ Some kind → (def : Definition) × (o ≡ Some def)
+defined : (o : Option Definition) (kind : Guid) → option_map (λ (d : Definition). d.kind) o ≡ Some kind
+    → (def : Definition) × (o ≡ Some def)
 defined None kind is = absurd (cc)
 defined (Some d) kind is = (d, refl)
 
@@ -59,7 +62,8 @@ definition_of defs file kind at =
     let found = defined (slice_get defs file) kind is in
     (found.0, found.1, kind_is (slice_get defs file) kind found.0 found.1 is)
 
-module _ (seen : Seen) (target : ℕ) (defs : List Definition) (facts : List Fact) (seed : Guid) (areas : List Area) (placed : Placed) (plan : Plan)
+module _ (seen : Seen) (target : ℕ) (defs : List Definition) (facts : List Fact) (seed : Guid) (areas : List Area) (placed : Placed)
+    (plan : Plan)
     (given : IsGiven seen target defs (matched_of seen.shown defs)) (made : IsMadeOf seen target defs facts seed areas placed plan)
     (whole : plan.dropped ≡ []) where
   abbrev own : List (Option ℕ)
@@ -69,7 +73,8 @@ module _ (seen : Seen) (target : ℕ) (defs : List Definition) (facts : List Fac
   place = spots seen target defs facts seed areas placed plan given made
 
   abbrev laid_rows : List Row
-  laid_rows = rows_laid seen.shown.rows (matched_of seen.shown defs) placed.threshold defs (spots seen target defs facts seed areas placed plan given made)
+  laid_rows = rows_laid seen.shown.rows (matched_of seen.shown defs) placed.threshold defs
+      (spots seen target defs facts seed areas placed plan given made)
 
   pub none_dropped : dropped_files (matched_of seen.shown defs) placed.threshold defs ≡ []
   none_dropped = sym (ap (λ (p : Plan). p.dropped) made.same) ∙ whole
@@ -85,7 +90,8 @@ module _ (seen : Seen) (target : ℕ) (defs : List Definition) (facts : List Fac
   goal_kinds =
       let old = map (row_again own place) (enumerate_from 0 seen.shown.rows) in
       let new = map (row_for place) (enumerate_from (first_free seen.shown.rows) (kept_of own placed.threshold defs)) in
-      through bare kind_of kind_of (λ r. refl) plan.goal.rows laid_rows (is_named seen target defs facts seed areas placed plan given made).rows
+      through bare kind_of kind_of (λ r. refl) plan.goal.rows laid_rows
+      (is_named seen target defs facts seed areas placed plan given made).rows
       ∙ map-append kind_of old new
       ∙ ap (λ ks. ks ++ map kind_of new)
       (map_same kind_of (row_again own place) (λ (e : ℕ × Row). e.1.kind)
@@ -100,12 +106,14 @@ module _ (seen : Seen) (target : ℕ) (defs : List Definition) (facts : List Fac
   pub refilled : IsRefilled seen.shown.rows plan.goal.rows (kinds_of defs)
   refilled = record {
     first = ap (take (length seen.shown.rows)) goal_kinds
-        ∙ ap (λ n. take n (map kind_of seen.shown.rows ++ map kind_kept (kept_of own placed.threshold defs))) (sym (length-map seen.shown.rows kind_of))
+        ∙ ap (λ n. take n (map kind_of seen.shown.rows ++ map kind_kept (kept_of own placed.threshold defs)))
+        (sym (length-map seen.shown.rows kind_of))
         ∙ take-append_seam (map kind_of seen.shown.rows) (map kind_kept (kept_of own placed.threshold defs));
     more = λ file kind at free.
         let d = definition_of defs file kind at in
         ap (λ ks. slice_get ks (length seen.shown.rows + without own file)) goal_kinds
-        ∙ behind (map kind_of seen.shown.rows) (map kind_kept (kept_of own placed.threshold defs)) (length seen.shown.rows) (without own file)
+        ∙ behind (map kind_of seen.shown.rows) (map kind_kept (kept_of own placed.threshold defs)) (length seen.shown.rows)
+        (without own file)
         (sym (length-map seen.shown.rows kind_of))
         ∙ slice_get-map kind_kept (kept_of own placed.threshold defs) (without own file)
         ∙ ap (option_map kind_kept) (kept_rank own placed.threshold defs none_dropped file d.0 d.1 free)

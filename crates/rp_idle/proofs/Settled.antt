@@ -21,7 +21,8 @@ pub record HasAnchor (wants : List Want) (es : List Extent) (area : Area) (file 
   pub piece : Piece
   pub own : piece.file ≡ file
   pub stands : Contains es (row_at area.from piece)
-  pub rests : shares_of area.span (asked (grains_up piece.units) (want_at wants file).min (want_at wants file).max (want_at wants file).weight
+  pub rests : shares_of area.span (asked (grains_up piece.units) (want_at wants file).min (want_at wants file).max
+      (want_at wants file).weight
       ∷ padding_of (want_at wants file) ∷ []) ≡ grains_up piece.units ∷ piece.pad ∷ []
 
 -- an area has such an anchor, or none
@@ -35,7 +36,13 @@ module _ (wants : List Want) (es : List Extent) where
   pieces_settled limit from [] rest areas idle stand all = all
   pieces_settled limit from (p ∷ ps) rest areas idle stand all =
       let next : ℕ = from + grains_up p.units + p.pad in
-      let area : Area = record { from = from; span = up_to next ps limit - from; anchor = Some p.file; used = used_of (want_at wants p.file) (row_at from p) } in
+      let area : Area = record {
+        from = from;
+        span = up_to next ps limit - from;
+        anchor = Some p.file;
+        used = used_of
+            (want_at wants p.file) (row_at from p);
+      } in
       All-cons (IsSettled wants es) area (areas_of_pieces wants limit next ps areas)
       (record {
         piece = p;
@@ -78,7 +85,8 @@ module _ (wants : List Want) (es : List Extent) where
   woven_settled last (e ∷ rows) [] idle stand = λ k d below. absurd (omega (arith, below))
   woven_settled last (e ∷ rows) (ps ∷ stacks) idle stand =
       let area : Area = area_behind wants (limit_of last rows) e in
-      with_settled (limit_of last rows) area.anchor area.from e ps (woven last wants rows stacks) (areas_again last wants rows stacks) idle.0 stand
+      with_settled (limit_of last rows) area.anchor area.from e ps (woven last wants rows stacks) (areas_again last wants rows stacks)
+      idle.0 stand
       (woven_settled last rows stacks idle.1 (rest_stand area.anchor area.from e ps (woven last wants rows stacks) stand))
 
   -- the areas of a filled table are settled
@@ -91,9 +99,15 @@ module _ (wants : List Want) (es : List Extent) where
       let all : List Extent = stacked (grains_up table.first) before (woven last wants rows stacks) in
       let stand : All (Contains es) all = λ k d below. among (get_or all k d) (Contains-get_or all k d below) in
       All-cons (IsSettled wants es)
-      (record { from = grains_up table.first; span = up_to (grains_up table.first) before (limit_of last rows) - grains_up table.first; anchor = None; used = 0 })
+      (record {
+        from = grains_up table.first;
+        span = up_to (grains_up table.first) before (limit_of last rows) - grains_up table.first;
+        anchor = None;
+        used = 0;
+      })
       (areas_of_pieces wants (limit_of last rows) (grains_up table.first) before (areas_again last wants rows stacks)) tt
-      (pieces_settled (limit_of last rows) (grains_up table.first) before (woven last wants rows stacks) (areas_again last wants rows stacks) first stand
+      (pieces_settled (limit_of last rows) (grains_up table.first) before (woven last wants rows stacks)
+      (areas_again last wants rows stacks) first stand
       (woven_settled last rows stacks idle (others_stand (grains_up table.first) before (woven last wants rows stacks) stand)))
 
 -- the span of the area behind a row reaches to its limit

@@ -30,7 +30,8 @@ standing rows matched e file (k, below, is) has =
     let at : slice_get (extents_of rows matched) k ≡ Some e = slice_get-get_or (extents_of rows matched) k e below ∙ ap (λ x. Some x) is in
     let found = item_at_place (extent_of matched) 0 rows k k e (sym (zero-add k)) at in
     let owner : file_of matched k ≡ Some file = ap (λ (x : Extent). x.file) found.2 ∙ has in
-    let own : row_of rows matched file ≡ Some found.0 = ap (λ o. option_and_then (slice_get rows) (unwrap_or o None)) (owner_has matched k file owner) ∙ found.1 in
+    let own : row_of rows matched file ≡ Some found.0 = ap (λ o. option_and_then (slice_get rows) (unwrap_or o None))
+    (owner_has matched k file owner) ∙ found.1 in
     ap (λ (o : Option Row). option_map_or (λ (row : Row). row.size) o 0) own ∙ ap (λ (x : Extent). x.size) found.2
 
 same_units : (has grains : ℕ) → grains_up has ≡ grains → units_of has grains ≡ has
@@ -46,23 +47,29 @@ module _ (rows : List Row) (matched : List (Option ℕ)) (wants : List Want) whe
       → All IsKeeping (spots_from from (stack_of span (seat_of want file has ∷ [])))
   one_keeps from file has want span x y own grains is =
       subst (λ shares. All IsKeeping (spots_from from (pieces_of (seat_of want file has ∷ []) shares))) (sym is)
-      (All-cons IsKeeping (record { file = file; start = 8 * from; size = units_of has x; pad = y }) [] (same_units has x grains ∙ own) (All-nil IsKeeping))
+      (All-cons IsKeeping (record { file = file; start = 8 * from; size = units_of has x; pad = y }) [] (same_units has x grains
+      ∙ own) (All-nil IsKeeping))
 
-  area_keeps_by : (i from span : ℕ) (o : Option ℕ) (es : List Extent) (area : Area) → extents_of rows matched ≡ es → area.from ≡ from → area.span ≡ span
+  area_keeps_by : (i from span : ℕ) (o : Option ℕ) (es : List Extent) (area : Area) → extents_of rows matched ≡ es → area.from ≡ from
+      → area.span ≡ span
       → IfSome o (HasAnchor wants es area)
-      → All IsKeeping (spots_from from (stack_of span (map (λ file. seat_of (want_at wants file) file (units_at rows matched file)) (cons_option o []))))
+      → All IsKeeping (spots_from from (stack_of span (map (λ file. seat_of (want_at wants file) file (units_at rows matched file))
+      (cons_option o []))))
   area_keeps_by i from span None es area are at long settled = none_keeps where
     none_keeps : All IsKeeping (spots_from from (stack_of span []))
     none_keeps = All-nil IsKeeping
   area_keeps_by i from span (Some file) es area are at long settled =
       let has : units_at rows matched file ≡ settled.piece.units =
-      standing rows matched (row_at area.from settled.piece) file (subst (λ xs. Contains xs (row_at area.from settled.piece)) (sym are) settled.stands)
+      standing rows matched (row_at area.from settled.piece) file (subst (λ xs. Contains xs (row_at area.from settled.piece)) (sym are)
+      settled.stands)
       (ap (λ f. Some f) settled.own) in
       let want : Want = want_at wants file in
-      let same : asked (grains_up settled.piece.units) want.min want.max want.weight ≡ asked (grains_up (units_at rows matched file)) want.min want.max want.weight =
+      let same : asked (grains_up settled.piece.units) want.min want.max want.weight ≡ asked (grains_up (units_at rows matched file))
+      want.min want.max want.weight =
       ap (λ n. asked (grains_up n) want.min want.max want.weight) (sym has) in
       one_keeps from file (units_at rows matched file) want span (grains_up settled.piece.units) settled.piece.pad refl (ap grains_up has)
-      (ap (λ s. shares_of s (asked (grains_up (units_at rows matched file)) want.min want.max want.weight ∷ padding_of want ∷ [])) (sym long)
+      (ap (λ s. shares_of s (asked (grains_up (units_at rows matched file)) want.min want.max want.weight ∷ padding_of want ∷ []))
+      (sym long)
       ∙ ap (λ item. shares_of area.span (item ∷ padding_of want ∷ [])) (sym same) ∙ settled.rests)
 
   area_keeps : (i : ℕ) (es : List Extent) (area : Area) → extents_of rows matched ≡ es → IsSettled wants es area
@@ -78,28 +85,34 @@ module _ (rows : List Row) (matched : List (Option ℕ)) (wants : List Want) whe
       (area_keeps n es area are (All-head (IsSettled wants es) area areas all))
       (spots_keep (n + 1) es areas are (All-tail (IsSettled wants es) area areas all))
 
-  spot_found : (areas : List Area) (file : ℕ) (s : Spot) (o : Option (Option Spot)) → slice_get (laid rows matched wants areas [] []) file ≡ o
-      → option_and_then (λ spot. spot) o ≡ Some s → find (λ (spot : Spot). spot.file == file) (spots_of rows matched wants areas [] []) ≡ Some s
+  spot_found : (areas : List Area) (file : ℕ) (s : Spot) (o : Option (Option Spot))
+      → slice_get (laid rows matched wants areas [] []) file ≡ o
+      → option_and_then (λ spot. spot) o ≡ Some s → find (λ (spot : Spot). spot.file == file)
+      (spots_of rows matched wants areas [] []) ≡ Some s
   spot_found areas file s None at is = absurd (cc)
   spot_found areas file s (Some spot) at is =
-      let found = item_at_place (λ (e : ℕ × Want). find (λ (spot : Spot). spot.file == e.0) (spots_of rows matched wants areas [] [])) 0 wants file file spot
+      let found = item_at_place (λ (e : ℕ × Want). find (λ (spot : Spot). spot.file == e.0) (spots_of rows matched wants areas [] [])) 0
+      wants file file spot
       (sym (zero-add file)) at in
       found.2 ∙ is
 
   size_is : (areas : List Area) (es : List Extent) → extents_of rows matched ≡ es → All (IsSettled wants es) areas → (file : ℕ) (s : Spot)
       → spot_at (laid rows matched wants areas [] []) file ≡ Some s → s.size ≡ units_at rows matched file
   size_is areas es are all file s at =
-      let found = found_holds IsKeeping (λ (spot : Spot). spot.file == file) (spots_of rows matched wants areas [] []) s (spots_keep 0 es areas are all)
+      let found = found_holds IsKeeping (λ (spot : Spot). spot.file == file) (spots_of rows matched wants areas [] []) s
+      (spots_keep 0 es areas are all)
       (spot_found areas file s (slice_get (laid rows matched wants areas [] []) file) refl at) in
       found.0 ∙ ap (units_at rows matched) (eqb-true s.file file found.1)
 
-  same_size : (spots : List (Option Spot)) (k : ℕ) (row : Row) → ((file : ℕ) (s : Spot) → spot_at spots file ≡ Some s → s.size ≡ units_at rows matched file)
+  same_size : (spots : List (Option Spot)) (k : ℕ) (row : Row)
+      → ((file : ℕ) (s : Spot) → spot_at spots file ≡ Some s → s.size ≡ units_at rows matched file)
       → slice_get rows k ≡ Some row → (f : Option ℕ) → file_of matched k ≡ f → (o : Option Spot) → option_and_then (spot_at spots) f ≡ o
       → option_map_or (λ (s : Spot). record row { size = s.size }) o row ≡ row
   same_size spots k row each at f owner None is = refl
   same_size spots k row each at None owner (Some s) is = absurd (cc)
   same_size spots k row each at (Some file) owner (Some s) is =
-      let own : row_of rows matched file ≡ Some row = ap (λ o. option_and_then (slice_get rows) (unwrap_or o None)) (owner_has matched k file owner) ∙ at in
+      let own : row_of rows matched file ≡ Some row = ap (λ o. option_and_then (slice_get rows) (unwrap_or o None))
+      (owner_has matched k file owner) ∙ at in
       let size : s.size ≡ row.size = each file s is ∙ ap (λ (o : Option Row). option_map_or (λ (r : Row). r.size) o 0) own in
       ap (λ n. record row { size = n }) size
 

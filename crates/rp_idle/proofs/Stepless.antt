@@ -53,7 +53,8 @@ past_tests true q f g x y a b same is other = absurd (cc)
 past_tests false true f g x y a b same is other = absurd (cc)
 past_tests false false f g x y a b same is other = same is other
 
-same_seen : (sector : ℕ) (image : List ℕ) (empty : Empty) (a b : Seen) → accepted sector image Refuse ≡ Ok a → accepted sector image empty ≡ Ok b
+same_seen : (sector : ℕ) (image : List ℕ) (empty : Empty) (a b : Seen) → accepted sector image Refuse ≡ Ok a
+    → accepted sector image empty ≡ Ok b
     → b ≡ a
 unfolding accepted
 same_seen sector image empty a b is other = past_tests (nat_lt (2 ^ 44) (length image))
@@ -79,8 +80,10 @@ same_plan : (r : Result Plan Demand) (a b : Plan) → r ≡ Ok a → r ≡ Ok b 
 same_plan r a b is other = let e : Ok b ≡ Ok a = sym other ∙ is in cc
 
 -- the plan for an idle image at its own length has no calls
-pub no_calls : (sector : ℕ) (image : List ℕ) (defs : List Definition) (seed : Guid) (empty : Empty) (seen : Seen) (facts : List Fact) (plan : Plan)
-    (sources : Sources) → IsIdle sector image defs seed → accepted sector image empty ≡ Ok seen → AreFactsOn (wanted_of seen.shown defs) facts
+pub no_calls : (sector : ℕ) (image : List ℕ) (defs : List Definition) (seed : Guid) (empty : Empty) (seen : Seen) (facts : List Fact)
+    (plan : Plan)
+    (sources : Sources) → IsIdle sector image defs seed → accepted sector image empty ≡ Ok seen → AreFactsOn (wanted_of seen.shown defs)
+    facts
     → goal seen seen.sectors defs facts seed ≡ Ok plan → calls plan seen sources ≡ []
 no_calls sector image defs seed empty seen facts plan sources idle shown_as known is =
     let same = same_seen sector image empty idle.seen seen idle.shows shown_as in
@@ -88,7 +91,8 @@ no_calls sector image defs seed empty seen facts plan sources idle shown_as know
     let none = none_left facts (wanted_of idle.seen.shown defs)
     (no_needs (matched_of idle.seen.shown defs) defs (all_have idle.seen.shown defs idle.matched)) are in
     let here : goal idle.seen idle.seen.sectors defs [] seed ≡ Ok plan =
-    ap (λ (fs : List Fact). goal idle.seen idle.seen.sectors defs fs seed) (sym none) ∙ ap (λ (s : Seen). goal s s.sectors defs facts seed) (sym same) ∙ is in
+    ap (λ (fs : List Fact). goal idle.seen idle.seen.sectors defs fs seed) (sym none)
+    ∙ ap (λ (s : Seen). goal s s.sectors defs facts seed) (sym same) ∙ is in
     let plans = same_plan (goal idle.seen idle.seen.sectors defs [] seed) idle.plan plan idle.goal_is here in
     let nothing_left : steps plan seen ≡ [] = ap (λ (p : Plan). steps p seen) plans ∙ ap (steps idle.plan) same ∙ idle.steps_are in
     ap (λ (ss : List Step). flat_map (calls_of plan sources) ss) nothing_left

@@ -6,7 +6,6 @@ use Rattle.std.specs.Option.{option_or}
 use Rattle.std.proofs.lemmas.Option.{slice_get-get_or, slice_get_past, slice_get_within}
 use Rattle.std.proofs.lemmas.Bool.{cases_lt}
 use Rattle.rp_base.specs.declared.want.Want.{Want}
-use Rattle.rp_base.specs.Wants.{AreWants}
 use Rattle.rp_areas.specs.Areas.{want_at}
 use Rattle.rp_defs.specs.WellFormed.{HasPartner, IsSized, IsWellFormed}
 use Rattle.rp_defs.specs.declared.definition.Definition.{Definition}
@@ -20,7 +19,7 @@ use Rattle.rp_sizes.specs.declared.need.Need.{Need}
 use Rattle.rp_sizes.specs.Needs.{is_new, need_of, needs_of}
 use Rattle.rp_sizes.specs.News.{new_of, news_of}
 use Rattle.rp_sizes.specs.Sizes.{asked, asked_of, differ, first_demand, first_of, half_alone, half_demand, is_split, least_by, least_of, size_demand, sized, too_large}
-use Rattle.rp_sizes.proofs.AskedLemmas.{asked_are_wants, asked_length, sound_at, want_is}
+use Rattle.rp_sizes.proofs.AskedLemmas.{asked_length, sound_at, want_is}
 use Rattle.rp_plan.specs.Kept.{is_kept, kept_of}
 use Rattle.rp_place.specs.declared.fit.New.{New}
 use Rattle.rp_idle.proofs.Lists.{no_answers, no_past, none_passes}
@@ -53,32 +52,33 @@ module _ (matched : List (Option ℕ)) (defs : List Definition) (have : AllHave 
   none_kept t = none_passes (is_kept matched t) 0 defs (λ k m def e at.
       ap (λ b. b && int_le def.priority t) (have m def (here k m def e at)))
 
-module _ (matched : List (Option ℕ)) (defs : List Definition) (facts : List Fact) (have : AllHave matched defs) (wf : IsWellFormed defs) where
-  whole_by : (file : ℕ) (def : Definition) (v : Verity) → slice_get defs file ≡ Some def → HasPartner defs file def v → is_split matched file v ≡ false
-  whole_by file def Off at partner = refl
-  whole_by file def (Data p) at (other, there, pair) =
-      ap (λ a. differ a (is_new matched p)) (have file def at) ∙ have p other there
-  whole_by file def (Hash p) at (other, there, pair) =
-      ap (λ a. differ a (is_new matched p)) (have file def at) ∙ have p other there
+module _ (matched : List (Option ℕ)) (defs : List Definition) (facts : List Fact) (have : AllHave matched defs) (wf : IsWellFormed defs)
+  where
+    whole_by : (file : ℕ) (def : Definition) (v : Verity) → slice_get defs file ≡ Some def → HasPartner defs file def v
+        → is_split matched file v ≡ false
+    whole_by file def Off at partner = refl
+    whole_by file def (Data p) at (other, there, pair) =
+        ap (λ a. differ a (is_new matched p)) (have file def at) ∙ have p other there
+    whole_by file def (Hash p) at (other, there, pair) =
+        ap (λ a. differ a (is_new matched p)) (have file def at) ∙ have p other there
 
-  no_halves : half_demand matched defs ≡ None
-  no_halves = no_first (half_alone matched) 0 defs (λ k m def e at.
-      ap (λ b. cond b (Some (VerityHalf m)) None) (whole_by m def def.verity (here matched defs have k m def e at) (wf.partners m def (here matched defs have k m def e at))))
+    no_halves : half_demand matched defs ≡ None
+    no_halves = no_first (half_alone matched) 0 defs (λ k m def e at.
+        ap (λ b. cond b (Some (VerityHalf m)) None) (whole_by m def def.verity (here matched defs have k m def e at)
+        (wf.partners m def (here matched defs have k m def e at))))
 
-  no_sizes : size_demand matched defs facts ≡ None
-  no_sizes = no_first (too_large matched defs facts) 0 defs (λ k m def e at. rw (have m def (here matched defs have k m def e at)) refl)
+    no_sizes : size_demand matched defs facts ≡ None
+    no_sizes = no_first (too_large matched defs facts) 0 defs (λ k m def e at. rw (have m def (here matched defs have k m def e at)) refl)
 
-  pub no_demand : first_demand matched defs facts ≡ None
-  no_demand = ap (λ o. option_or o (size_demand matched defs facts)) no_halves ∙ no_sizes
+    pub no_demand : first_demand matched defs facts ≡ None
+    no_demand = ap (λ o. option_or o (size_demand matched defs facts)) no_halves ∙ no_sizes
 
-  pub are_wants : AreWants (asked matched defs facts)
-  are_wants = asked_are_wants matched defs facts wf no_demand
-
-  -- what a definition asks for
-  pub own_want : (file : ℕ) (def : Definition) → slice_get defs file ≡ Some def → want_at (asked matched defs facts) file ≡ def.want
-  own_want file def at =
-      ap (λ o. unwrap_or o (record { min = 0; max = 0; weight = 0; pad_min = 0; pad_max = 0; pad_weight = 0 })) (want_is matched defs facts file def at)
-      ∙ ap (λ b. cond b (sized def.verity (least_of defs facts (file, def)) def.want) def.want) (have file def at)
+    -- what a definition asks for
+    pub own_want : (file : ℕ) (def : Definition) → slice_get defs file ≡ Some def → want_at (asked matched defs facts) file ≡ def.want
+    own_want file def at =
+        ap (λ o. unwrap_or o (record { min = 0; max = 0; weight = 0; pad_min = 0; pad_max = 0; pad_weight = 0 }))
+        (want_is matched defs facts file def at)
+        ∙ ap (λ b. cond b (sized def.verity (least_of defs facts (file, def)) def.want) def.want) (have file def at)
 
 no_want : (matched : List (Option ℕ)) (defs : List Definition) (facts : List Fact) (file : ℕ) → slice_get defs file ≡ None
     → want_at (asked matched defs facts) file ≡ record { min = 0; max = 0; weight = 0; pad_min = 0; pad_max = 0; pad_weight = 0 }
@@ -96,22 +96,34 @@ weightless want least none = ap (λ w. record want { min = least; max = least; w
 sized_asks : (defs : List Definition) (facts : List Fact) (file has : ℕ) (def : Definition) (v : Verity) → IsSized v def → has ≡ 0
     → AsksFor def.want has (sized v (least_by defs facts (file, def) v) def.want)
 sized_asks defs facts file has def Off is none = inr (none, omega arith, inl refl)
-sized_asks defs facts file has def (Data p) is none = inr (none, omega arith, inr (is, weightless def.want (least_by defs facts (file, def) (Data p)) is))
-sized_asks defs facts file has def (Hash p) is none = inr (none, omega arith, inr (is, weightless def.want (least_by defs facts (file, def) (Hash p)) is))
+sized_asks defs facts file has def (Data p) is none = inr (
+  none,
+  omega arith,
+  inr (is, weightless def.want (least_by defs facts (file, def) (Data p)) is),
+)
+sized_asks defs facts file has def (Hash p) is none = inr (
+  none,
+  omega arith,
+  inr (is, weightless def.want (least_by defs facts (file, def) (Hash p)) is),
+)
 
 asks_by : (b : Bool) (own : Want) (has : ℕ) (more : Want) → (b ≡ true → AsksFor own has more) → AsksFor own has (cond b more own)
 asks_by true own has more is = is refl
 asks_by false own has more is = inl refl
 
-module _ (matched again : List (Option ℕ)) (defs : List Definition) (facts others : List Fact) (have : AllHave again defs) (wf : IsWellFormed defs)
-    (units : ℕ → ℕ) (no_units : (file : ℕ) (def : Definition) → slice_get defs file ≡ Some def → is_new matched file ≡ true → units file ≡ 0) where
+module _ (matched again : List (Option ℕ)) (defs : List Definition) (facts others : List Fact) (have : AllHave again defs)
+    (wf : IsWellFormed defs)
+    (units : ℕ → ℕ) (no_units : (file : ℕ) (def : Definition) → slice_get defs file ≡ Some def → is_new matched file ≡ true → units
+    file ≡ 0) where
   asks_at : (file : ℕ) (o : Option Definition) → slice_get defs file ≡ o
       → AsksFor (want_at (asked again defs others) file) (units file) (want_at (asked matched defs facts) file)
   asks_at file None none = inl (no_want matched defs facts file none ∙ sym (no_want again defs others file none))
   asks_at file (Some def) at =
       let asked_is : want_at (asked matched defs facts) file ≡ asked_of matched defs facts (file, def) =
-      ap (λ o. unwrap_or o (record { min = 0; max = 0; weight = 0; pad_min = 0; pad_max = 0; pad_weight = 0 })) (want_is matched defs facts file def at) in
-      subst (λ (w : Want). AsksFor w (units file) (want_at (asked matched defs facts) file)) (sym (own_want again defs others have wf file def at))
+      ap (λ o. unwrap_or o (record { min = 0; max = 0; weight = 0; pad_min = 0; pad_max = 0; pad_weight = 0 }))
+      (want_is matched defs facts file def at) in
+      subst (λ (w : Want). AsksFor w (units file) (want_at (asked matched defs facts) file))
+      (sym (own_want again defs others have wf file def at))
       (subst (λ (w : Want). AsksFor def.want (units file) w) (sym asked_is)
       (asks_by (is_new matched file) def.want (units file) (sized def.verity (least_of defs facts (file, def)) def.want)
       (λ new. sized_asks defs facts file (units file) def def.verity (sound_at defs file def wf at).sized (no_units file def at new))))

@@ -1,6 +1,6 @@
 //! Laws of planning again, as contracts of functions that do nothing.
 
-ghost use Rattle.std.specs.Prelude.{◌≡◌, ◌≢◌, ℕ, All, IsSome, List, [], Ok};
+ghost use Rattle.std.specs.Prelude.{◌≡◌, ℕ, All, IsSome, List, [], Ok};
 ghost use Rattle.rp_base.specs.Plan.{IsTarget};
 ghost use Rattle.rp_base.specs.declared.guid.Guid.{Guid};
 ghost use Rattle.rp_base.specs.declared.plan.Plan.{Plan};
@@ -22,34 +22,35 @@ ghost use Rattle.rp_stops.specs.Order.{AreCallsOf};
 ghost use Rattle.rp_stops.specs.Rows.{Contents, Fills};
 ghost use Rattle.rp_idle.specs.Idle.{IsIdle, IsPlanned};
 
-/// Planned again on the table of a goal that dropped nothing, with the same definitions and target, each definition has a row,
-/// and the goal is that table and drops nothing, whatever is known of sources and whatever the seed.
+/// Planned again on the table of a goal that dropped nothing, with the same definitions and target, each definition has a
+/// row, and the goal is that table and drops nothing, whatever is known of sources and whatever the seed.
 pub fn the_goal_again_is_the_goal()
     ensures matched { (seen : Seen) (target : ℕ) (defs : List Definition) (facts : List Fact) (seed : Guid) (plan : Plan) → IsPlannable seen
         → IsTarget seen.shown.sector seen.sectors target → IsWellFormed defs → goal seen target defs facts seed ≡ Ok plan
         → plan.dropped ≡ [] → All IsSome (matched_of plan.goal defs) }
-    ensures same { (seen : Seen) (target : ℕ) (defs : List Definition) (facts : List Fact) (seed : Guid) (plan : Plan) (again : Seen) (others : List Fact)
-        (other : Guid) → IsPlannable seen → IsTarget seen.shown.sector seen.sectors target → IsWellFormed defs
+    ensures same { (seen : Seen) (target : ℕ) (defs : List Definition) (facts : List Fact) (seed : Guid) (plan : Plan) (again : Seen)
+        (others : List Fact) (other : Guid) → IsPlannable seen → IsTarget seen.shown.sector seen.sectors target → IsWellFormed defs
         → goal seen target defs facts seed ≡ Ok plan → plan.dropped ≡ [] → again.shown ≡ plan.goal
         → (next : Plan) × (goal again target defs others other ≡ Ok next) × (next.goal ≡ plan.goal) × (next.target ≡ target)
         × (next.dropped ≡ []) }
 {}
 
-/// A second run writes nothing where none was dropped: the image on which the calls of a plan were done whole is idle for the
-/// same definitions and seed, where the plan is the goal for an accepted image and drops nothing. So is the final image.
+/// A second run writes nothing where none was dropped: where a plan is the goal for an accepted image and drops nothing, the
+/// image on which its calls were done whole is idle for the same definitions and seed. So is the final image.
 pub fn what_is_done_is_idle()
-    ensures done { (sector : ℕ) (old : List ℕ) (empty : Empty) (seen : Seen) (target : ℕ) (defs : List Definition) (facts : List Fact) (seed : Guid)
-        (plan : Plan) (body calls : List Call) → IsPlanned sector old empty seen target defs facts seed plan → plan.dropped ≡ []
-        → AreCallsOf seen plan body calls → IsIdle sector (all_done old calls) defs seed }
-    ensures final_image { (sector : ℕ) (old : List ℕ) (empty : Empty) (seen : Seen) (target : ℕ) (defs : List Definition) (facts : List Fact) (seed : Guid)
-        (plan : Plan) (body calls : List Call) (contents : Contents) (image : List ℕ) → IsPlanned sector old empty seen target defs facts seed plan
-        → plan.dropped ≡ [] → AreCallsOf seen plan body calls → Fills old plan contents body → IsFinal old seen plan contents image
-        → IsIdle sector image defs seed }
+    ensures done { (sector : ℕ) (old : List ℕ) (empty : Empty) (seen : Seen) (target : ℕ) (defs : List Definition) (facts : List Fact)
+        (seed : Guid) (plan : Plan) (body calls : List Call) → IsPlanned sector old empty seen target defs facts seed plan
+        → plan.dropped ≡ [] → AreCallsOf seen plan body calls → IsIdle sector (all_done old calls) defs seed }
+    ensures final_image { (sector : ℕ) (old : List ℕ) (empty : Empty) (seen : Seen) (target : ℕ) (defs : List Definition)
+        (facts : List Fact) (seed : Guid) (plan : Plan) (body calls : List Call) (contents : Contents) (image : List ℕ)
+        → IsPlanned sector old empty seen target defs facts seed plan → plan.dropped ≡ [] → AreCallsOf seen plan body calls
+        → Fills old plan contents body → IsFinal old seen plan contents image → IsIdle sector image defs seed }
 {}
 
 /// On an idle image whose target is its own length the plan has no calls, by whichever option the image is accepted.
 pub fn idle_images_need_no_calls()
-    ensures { (sector : ℕ) (image : List ℕ) (defs : List Definition) (seed : Guid) (empty : Empty) (seen : Seen) (facts : List Fact) (plan : Plan)
-        (sources : Sources) → IsIdle sector image defs seed → accepted sector image empty ≡ Ok seen
-        → AreFactsOn (wanted_of seen.shown defs) facts → goal seen seen.sectors defs facts seed ≡ Ok plan → calls_for plan seen sources ≡ [] }
+    ensures { (sector : ℕ) (image : List ℕ) (defs : List Definition) (seed : Guid) (empty : Empty) (seen : Seen) (facts : List Fact)
+        (plan : Plan) (sources : Sources) → IsIdle sector image defs seed → accepted sector image empty ≡ Ok seen
+        → AreFactsOn (wanted_of seen.shown defs) facts → goal seen seen.sectors defs facts seed ≡ Ok plan
+        → calls_for plan seen sources ≡ [] }
 {}
