@@ -1,6 +1,6 @@
 -- The goal for a goal's table is that table.
-use Rattle.std.proofs.Common.{◌≡◌, ◌∙◌, ℕ, ℤ, suc, ◌+◌, ◌-◌, ◌/◌, ◌^◌, ◌≤◌, true, List, [], ◌∷◌, ◌++◌, length, map, Option, Some, None, Result, Ok, Err, All, arith, refl, ap, sym, subst, slice_get}
-use Rattle.std.specs.Prelude.{pos, slice_index_or, unwrap_or}
+use Rattle.std.proofs.Common.{◌≡◌, ◌∙◌, ℕ, ℤ, suc, ◌-◌, ◌/◌, ◌^◌, ◌≤◌, true, List, [], ◌∷◌, ◌++◌, length, map, Option, Some, None, Result, Ok, Err, All, arith, refl, ap, sym, slice_get}
+use Rattle.std.specs.Prelude.{pos, unwrap_or}
 use Rattle.std.specs.List.{enumerate_from}
 use Rattle.std.specs.Option.{option_and_then, option_map_or}
 use Rattle.std.proofs.lemmas.List.{append-nil}
@@ -12,7 +12,7 @@ use Rattle.rp_base.specs.declared.table.Row.{Row}
 use Rattle.rp_base.specs.declared.table.Table.{Table}
 use Rattle.rp_base.specs.declared.want.Want.{Want}
 use Rattle.rp_areas.specs.Again.{IsFilled, Piece, areas_filled, rows_by_start}
-use Rattle.rp_areas.specs.Areas.{area_before, areas_behind, areas_of, extents_of, grains_up, least_refusal, limit_of, refusals_of, want_at}
+use Rattle.rp_areas.specs.Areas.{area_before, areas_behind, areas_of, extents_of, least_refusal, limit_of, refusals_of, want_at}
 use Rattle.rp_areas.specs.declared.behind.Refusal.{Refusal}
 use Rattle.rp_areas.specs.declared.extents.Extent.{Extent}
 use Rattle.rp_areas.specs.declared.gaps.Area.{Area}
@@ -36,23 +36,23 @@ use Rattle.rp_ident.specs.Naming.{named}
 use Rattle.rp_sizes.specs.declared.need.Fact.{Fact}
 use Rattle.rp_sizes.specs.Needs.{is_new, matched_of}
 use Rattle.rp_sizes.specs.News.{news_of}
-use Rattle.rp_sizes.specs.Sizes.{asked, first_demand}
+use Rattle.rp_sizes.specs.Sizes.{asked}
 use Rattle.rp_plan.specs.Goal.{after, area_demand, goal, goal_table, ident_demand, place_demand, plan_among, plan_asked, plan_placed, plan_with, spots_of, unless}
 use Rattle.rp_plan.specs.Kept.{dropped_file, dropped_files, first_free, free_slots, kept_files, kept_of}
 use Rattle.rp_plan.specs.Names.{namings_of}
 use Rattle.rp_plan.specs.Plannable.{IsGiven}
-use Rattle.rp_plan.specs.Rows.{last_of, row_again, row_for, rows_laid, table_laid}
+use Rattle.rp_plan.specs.Rows.{last_of, row_for, rows_laid, table_laid}
 use Rattle.rp_plan.proofs.Formed.{is_named}
 use Rattle.rp_plan.proofs.Given.{matched_length}
 use Rattle.rp_plan.proofs.Parts.{IsMadeOf}
 use Rattle.rp_plan.proofs.Ready.{no_row_of}
-use Rattle.rp_plan.proofs.Written.{news, ready, wants}
+use Rattle.rp_plan.proofs.Written.{ready}
 use Rattle.std.proofs.lemmas.Option.{slice_get_within}
 use Rattle.rp_idle.proofs.Extents.{extents_same}
 use Rattle.rp_idle.proofs.Lists.{no_answers}
 use Rattle.rp_idle.proofs.Matched.{old_again}
 use Rattle.rp_idle.proofs.Named.{named_again}
-use Rattle.rp_idle.proofs.Settled.{AllIdle, IsSettled, all_idle, filled_settled}
+use Rattle.rp_idle.proofs.Settled.{IsSettled, all_idle, filled_settled}
 use Rattle.rp_idle.proofs.Sizes.{rows_same}
 use Rattle.rp_idle.proofs.Wanted.{AllHave, asks_for, in_limits, no_demand, no_news, none_kept}
 

@@ -1,7 +1,7 @@
 -- What a plan that drops nothing leaves is idle.
-use Rattle.std.proofs.Common.{◌≡◌, ◌≢◌, ◌∙◌, ◌⊎◌, ℕ, ◌^◌, ◌≤◌, List, [], Option, Some, None, Result, Ok, Err, All, arith, inl, inr, refl, ap, sym, subst}
+use Rattle.std.proofs.Common.{◌≡◌, ◌≢◌, ℕ, ◌^◌, ◌≤◌, List, [], Ok, All, arith, inl, refl, ap, sym, subst}
 use Rattle.std.specs.Prelude.{◌-◌, IsSome, map, pos}
-use Rattle.rp_base.specs.Plan.{Fits, IsTarget, IsWellFormed}
+use Rattle.rp_base.specs.Plan.{Fits, IsTarget}
 use Rattle.rp_base.specs.declared.guid.Guid.{Guid}
 use Rattle.rp_base.specs.declared.plan.Plan.{Plan}
 use Rattle.rp_base.specs.declared.seen.Mbr.{Mbr}
@@ -10,7 +10,6 @@ use Rattle.rp_base.specs.declared.seen.Origin.TheVariants as origins
 use Rattle.rp_base.specs.declared.seen.Seen.{Seen}
 use Rattle.rp_disk.specs.Calls.{all_done}
 use Rattle.rp_disk.specs.declared.call.Call.{Call}
-use Rattle.rp_gpt.proofs.Accepted.{accepted_seen}
 use Rattle.rp_gpt.specs.Shown.{accepted}
 use Rattle.rp_gpt.specs.declared.table_fault.Empty.{Empty}
 use Rattle.rp_gpt.specs.declared.table_fault.Empty.TheVariants.{Refuse, Require}
@@ -23,7 +22,6 @@ use Rattle.rp_stops.proofs.After.{accepted_after}
 use Rattle.rp_stops.proofs.Carried.{plan-given, plan-sector}
 use Rattle.rp_stops.proofs.Final.{final}
 use Rattle.rp_stops.proofs.OneFinal.{one_final}
-use Rattle.rp_steps.specs.Done.{IsDone}
 use Rattle.rp_steps.specs.Steps.{steps}
 use Rattle.rp_steps.proofs.Idle.{no_steps}
 use Rattle.rp_areas.specs.declared.gaps.Area.{Area}
@@ -32,7 +30,7 @@ use Rattle.rp_defs.specs.WellFormed.{IsWellFormed as AreWellFormed}
 use Rattle.rp_defs.specs.declared.definition.Definition.{Definition}
 use Rattle.rp_sizes.specs.declared.need.Fact.{Fact}
 use Rattle.rp_sizes.specs.declared.need.Need.{Need}
-use Rattle.rp_sizes.specs.Needs.{AreFactsOn, matched_of, needs_of, wanted_of}
+use Rattle.rp_sizes.specs.Needs.{AreFactsOn, matched_of, wanted_of}
 use Rattle.rp_plan.specs.Goal.{goal, plan_with}
 use Rattle.rp_plan.specs.Plannable.{IsGiven, IsPlannable}
 use Rattle.rp_plan.proofs.Fitting.{goal_fits}
@@ -40,24 +38,10 @@ use Rattle.rp_plan.proofs.Formed.{goal_bounded, goal_laid_out, goal_writable, is
 use Rattle.rp_plan.proofs.Given.{last_bounds}
 use Rattle.rp_plan.proofs.Parts.{IsMadeOf, made_of}
 use Rattle.rp_idle.specs.Idle.{IsIdle, IsPlanned}
+use Rattle.rp_idle.proofs.Accepted.{plannable}
 use Rattle.rp_idle.proofs.Again.{goal_again, none_dropped_again}
 use Rattle.rp_idle.proofs.Matched.{all_matched, old_again}
 use Rattle.rp_idle.proofs.Wanted.{no_needs}
-
--- what is seen of an accepted image can be planned for
-plannable : (sector : ℕ) (old : List ℕ) (empty : Empty) (seen : Seen) (target : ℕ) (defs : List Definition) (facts : List Fact)
-    (seed : Guid)
-    (plan : Plan) → IsPlanned sector old empty seen target defs facts seed plan → IsPlannable seen × (seen.shown.sector ≡ sector)
-plannable sector old empty seen target defs facts seed plan is =
-    let both = accepted_seen sector old empty seen is.of_sector is.bytes is.seen_of in (
-      record {
-        whole = rw both.0.of_sector both.0.whole;
-        most = both.0.most;
-        writable = both.0.writable;
-        in_place = both.0.in_place;
-      },
-      both.0.of_sector,
-    )
 
 right_mbr : (state : Mbr) → mbr_after state ≢ mbrs.Differs
 right_mbr mbrs.Same is = let e : mbrs.Same ≡ mbrs.Differs = is in cc
@@ -169,10 +153,10 @@ module _ (sector : ℕ) (old : List ℕ) (empty : Empty) (seen : Seen) (target :
     (plan : Plan)
     (is : IsPlanned sector old empty seen target defs facts seed plan) where
   ready : IsPlannable seen
-  ready = (plannable sector old empty seen target defs facts seed plan is).0
+  ready = (plannable sector old empty seen is.of_sector is.seen_of).0
 
   aims : IsTarget seen.shown.sector seen.sectors target
-  aims = rw (plannable sector old empty seen target defs facts seed plan is).1 is.aim
+  aims = rw (plannable sector old empty seen is.of_sector is.seen_of).1 is.aim
 
   pub plan_for : IsPlanFor sector old empty seen plan
   plan_for = record {

@@ -1,5 +1,5 @@
 -- Where nothing is dropped, the definitions that are kept are those without a row, in order.
-use Rattle.std.proofs.Common.{◌≡◌, ◌∙◌, ℕ, ℤ, zero, suc, ◌+◌, ◌<◌, ◌≤◌, Bool, true, false, cond, List, [], ◌∷◌, length, map, Option, Some, None, arith, refl, ap, sym, subst, slice_get, zero-add}
+use Rattle.std.proofs.Common.{◌≡◌, ◌∙◌, ℕ, ℤ, zero, suc, ◌+◌, Bool, true, false, cond, List, [], ◌∷◌, Option, Some, None, arith, refl, ap, sym, subst, slice_get, zero-add}
 use Rattle.std.specs.Prelude.{◌&&◌, count_by, int_le, is_none, not, slice_index_or, take}
 use Rattle.std.specs.List.{enumerate_from, filter}
 use Rattle.std.proofs.lemmas.Option.{get_or_from_slice_get}

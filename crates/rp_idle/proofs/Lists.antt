@@ -1,8 +1,8 @@
 -- Lists made place by place, and what is found in them.
-use Rattle.std.proofs.Common.{◌≡◌, ◌∙◌, ℕ, zero, suc, ◌+◌, ◌<◌, ◌≤◌, Bool, true, false, cond, List, [], ◌∷◌, ◌++◌, length, map, Option, Some, None, All, arith, refl, ap, sym, subst, slice_get}
-use Rattle.std.specs.Prelude.{IfSome, count_by, find, is_none, slice_index_or, take}
+use Rattle.std.proofs.Common.{◌≡◌, ◌∙◌, ℕ, zero, suc, ◌+◌, ◌<◌, Bool, true, false, cond, List, [], ◌∷◌, length, map, Option, Some, None, All, arith, refl, ap, sym, subst, slice_get}
+use Rattle.std.specs.Prelude.{count_by, find}
 use Rattle.std.specs.List.{cons_option, enumerate_from, filter, filter_map}
-use Rattle.std.proofs.lemmas.List.Elements.{All-cons, All-head, All-tail}
+use Rattle.std.proofs.lemmas.List.Elements.{All-head, All-tail}
 use Rattle.std.proofs.lemmas.List.Sums.{sum_by-cons}
 
 -- what leaves each item of a list with places as it is

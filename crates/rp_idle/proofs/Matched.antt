@@ -1,6 +1,6 @@
 -- Matched again, each definition has the row that it had or got.
-use Rattle.std.proofs.Common.{◌≡◌, ◌∙◌, ℕ, ◌+◌, ◌<◌, ◌≤◌, Bool, true, false, List, [], length, get_or, Option, Some, None, All, arith, refl, ap, sym, subst, slice_get}
-use Rattle.std.specs.Prelude.{IsSome, is_none, is_some, slice_index_or}
+use Rattle.std.proofs.Common.{◌≡◌, ◌∙◌, ℕ, ◌+◌, ◌<◌, false, List, [], length, get_or, Option, Some, None, All, arith, refl, ap, slice_get}
+use Rattle.std.specs.Prelude.{IsSome, is_none, is_some}
 use Rattle.std.specs.Option.{option_map, option_or}
 use Rattle.std.proofs.lemmas.List.{length-map}
 use Rattle.std.proofs.lemmas.Option.{get_or_from_slice_get, slice_get-get_or, slice_get-map, slice_get_within}

@@ -1,5 +1,5 @@
 -- The rows of the goal that belong to definitions have names and identifiers, so naming leaves them as they are.
-use Rattle.std.proofs.Common.{◌≡◌, ◌≢◌, ◌∙◌, ℕ, zero, suc, ◌+◌, ◌<◌, ◌≤◌, false, List, [], ◌∷◌, length, get_or, Option, Some, None, All, arith, refl, ap, sym, subst, slice_get, zero-add, Ok}
+use Rattle.std.proofs.Common.{◌≡◌, ◌≢◌, ◌∙◌, ℕ, zero, suc, ◌+◌, ◌≤◌, false, List, [], ◌∷◌, length, Option, Some, None, All, arith, refl, ap, sym, subst, slice_get, zero-add, Ok}
 use Rattle.std.specs.Prelude.{IfSome, slice_index, unwrap_or}
 use Rattle.std.specs.List.{cons_option, enumerate_from, filter_map}
 use Rattle.std.specs.Option.{option_map, option_or}
@@ -8,13 +8,11 @@ use Rattle.std.proofs.lemmas.Option.{get_or_from_slice_get}
 use Rattle.rp_base.specs.declared.guid.Guid.{Guid}
 use Rattle.rp_base.specs.declared.plan.Plan.{Plan}
 use Rattle.rp_base.specs.declared.seen.Seen.{Seen}
-use Rattle.rp_base.specs.declared.table.Row.{Row}
 use Rattle.rp_areas.specs.declared.gaps.Area.{Area}
 use Rattle.rp_place.specs.declared.threshold.Placed.{Placed}
 use Rattle.rp_types.specs.Guids.{guid_text}
 use Rattle.rp_types.specs.Types.{by_guid, label_of}
 use Rattle.rp_types.proofs.TypeLemmas.{by_guid-begins, guid_text-begins, padded-begins}
-use Rattle.rp_defs.specs.WellFormed.{IsSound, IsWellFormed}
 use Rattle.rp_defs.specs.declared.definition.Definition.{Definition}
 use Rattle.rp_ident.specs.Facts.{IsDone, IsNamed}
 use Rattle.rp_ident.specs.Naming.{disk_id, is_zero, named}

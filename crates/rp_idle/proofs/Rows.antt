@@ -1,5 +1,5 @@
 -- The rows of a goal that drops nothing: those that were there, and then one for each definition that had none.
-use Rattle.std.proofs.Common.{◌≡◌, ◌∙◌, ℕ, zero, suc, ◌+◌, ◌<◌, ◌≤◌, List, [], ◌∷◌, ◌++◌, length, map, take, Option, Some, None, arith, refl, ap, sym, subst, slice_get}
+use Rattle.std.proofs.Common.{◌≡◌, ◌∙◌, ℕ, zero, suc, ◌+◌, List, [], ◌∷◌, ◌++◌, length, map, take, Option, Some, None, arith, refl, ap, sym, slice_get}
 use Rattle.std.specs.List.{enumerate_from}
 use Rattle.std.specs.Option.{option_and_then, option_map, option_map_or}
 use Rattle.std.proofs.Math.Seq.{take-append_seam}
@@ -11,7 +11,7 @@ use Rattle.rp_base.specs.declared.seen.Seen.{Seen}
 use Rattle.rp_base.specs.declared.table.Row.{Row}
 use Rattle.rp_areas.specs.Areas.{file_of}
 use Rattle.rp_areas.specs.declared.gaps.Area.{Area}
-use Rattle.rp_areas.specs.Matching.{IsRefilled, matches_of, without}
+use Rattle.rp_areas.specs.Matching.{IsRefilled, without}
 use Rattle.rp_place.specs.declared.threshold.Placed.{Placed}
 use Rattle.rp_layout.specs.declared.spot.Spot.{Spot}
 use Rattle.rp_layout.specs.Layout.{spot_at}

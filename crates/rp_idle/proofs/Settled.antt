@@ -1,14 +1,12 @@
 -- Each area of a table whose areas were filled has an anchor that is shared what it has, or none.
-use Rattle.std.proofs.Common.{◌≡◌, ◌∙◌, ℕ, suc, ◌+◌, ◌-◌, ◌<◌, ◌≤◌, List, [], ◌∷◌, length, get_or, Option, Some, None, All, arith, refl, ap, sym, subst}
+use Rattle.std.proofs.Common.{◌≡◌, ℕ, suc, ◌+◌, ◌-◌, List, [], ◌∷◌, get_or, Option, Some, None, All, arith, refl}
 use Rattle.std.specs.Prelude.{Contains, IfSome, map, slice_get}
 use Rattle.std.specs.List.{enumerate_from}
-use Rattle.std.specs.Option.{option_map_or}
 use Rattle.std.proofs.lemmas.List.Elements.{All-cons, All-head, All-tail, Contains-get_or}
-use Rattle.rp_base.specs.declared.table.Row.{Row}
 use Rattle.rp_base.specs.declared.table.Table.{Table}
 use Rattle.rp_base.specs.declared.want.Want.{Want}
 use Rattle.rp_areas.specs.Again.{AreAmong, Piece, areas_again, areas_filled, areas_of_pieces, areas_with, row_at, rows_again, rows_by_start, stacked, up_to, woven, woven_at}
-use Rattle.rp_areas.specs.Areas.{anchor_of, area_before, area_behind, areas_behind, areas_of, grains_up, limit_of, used_of, want_at}
+use Rattle.rp_areas.specs.Areas.{anchor_of, area_behind, areas_behind, grains_up, limit_of, used_of, want_at}
 use Rattle.rp_areas.specs.declared.extents.Extent.{Extent}
 use Rattle.rp_areas.specs.declared.gaps.Area.{Area}
 use Rattle.rp_share.specs.Again.{asked}

@@ -1,20 +1,19 @@
 -- Laid out again, each partition has the units that it has.
-use Rattle.std.proofs.Common.{◌≡◌, ◌∙◌, ℕ, ◌+◌, ◌*◌, ◌-◌, ◌<◌, ◌≤◌, ◌==◌, Bool, true, false, cond, List, [], ◌∷◌, ◌++◌, length, get_or, map, Option, Some, None, All, arith, eq-eqb, refl, ap, sym, subst, slice_get, zero-add}
+use Rattle.std.proofs.Common.{◌≡◌, ◌∙◌, ℕ, ◌+◌, ◌*◌, ◌==◌, cond, List, [], ◌∷◌, map, Option, Some, None, All, arith, eq-eqb, refl, ap, sym, subst, slice_get, zero-add}
 use Rattle.std.specs.Prelude.{Contains, IfSome, find, unwrap_or}
 use Rattle.std.specs.List.{cons_option, enumerate_from, flat_map}
 use Rattle.std.specs.Option.{option_and_then, option_map_or}
 use Rattle.std.proofs.lemmas.Bool.{eqb-true}
 use Rattle.std.proofs.lemmas.List.Elements.{All-append, All-cons, All-head, All-nil, All-tail}
-use Rattle.std.proofs.lemmas.Option.{get_or_from_slice_get, slice_get-get_or, slice_get_within}
+use Rattle.std.proofs.lemmas.Option.{slice_get-get_or}
 use Rattle.rp_base.specs.declared.table.Row.{Row}
 use Rattle.rp_base.specs.declared.want.Want.{Want}
-use Rattle.rp_areas.specs.Again.{Piece, row_at}
+use Rattle.rp_areas.specs.Again.{row_at}
 use Rattle.rp_areas.specs.Areas.{extent_of, extents_of, file_of, grains_up, want_at}
 use Rattle.rp_areas.specs.declared.extents.Extent.{Extent}
 use Rattle.rp_areas.specs.declared.gaps.Area.{Area}
 use Rattle.rp_share.specs.Again.{asked}
 use Rattle.rp_share.specs.Value.{shares_of}
-use Rattle.rp_layout.specs.declared.seat.Seat.{Seat}
 use Rattle.rp_layout.specs.declared.spot.Spot.{Spot}
 use Rattle.rp_layout.specs.Layout.{laid, spot_at, spots_from, spots_of, stack_in}
 use Rattle.rp_layout.specs.Seats.{items_of, padding_of, pieces_of, row_of, seat_of, stack_of, units_at, units_of}

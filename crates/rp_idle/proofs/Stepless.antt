@@ -1,5 +1,5 @@
 -- On an idle image nothing is to be done.
-use Rattle.std.proofs.Common.{◌≡◌, ◌∙◌, ℕ, ◌<◌, Bool, true, false, cond, List, [], ◌∷◌, length, get_or, map, Option, Some, None, Result, Ok, Err, All, arith, refl, ap, sym, subst, slice_get}
+use Rattle.std.proofs.Common.{◌≡◌, ◌∙◌, ℕ, Bool, true, false, cond, List, [], ◌∷◌, length, get_or, map, Option, Some, None, Result, Ok, Err, All, arith, refl, ap, sym, subst}
 use Rattle.std.specs.Prelude.{◌%◌, ◌^◌, ◌==◌, ◌||◌, IsSome, flat_map, is_none, nat_lt, not, option_map, take}
 use Rattle.std.proofs.lemmas.List.{length-map}
 use Rattle.std.proofs.lemmas.Option.{slice_get_within}

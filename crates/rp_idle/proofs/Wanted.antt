@@ -1,9 +1,9 @@
 -- Where each definition has a row, nothing is demanded or new, and each asks for what it says itself.
-use Rattle.std.proofs.Common.{◌≡◌, ◌∙◌, ℕ, ℤ, suc, ◌+◌, ◌<◌, ◌≤◌, Bool, true, false, cond, List, [], ◌∷◌, length, get_or, max, Option, Some, None, All, arith, inl, inr, refl, ap, sym, subst, slice_get, zero-add}
-use Rattle.std.specs.Prelude.{◌&&◌, is_none, is_some, map, nat_lt, slice_index_or, unwrap_or, int_le}
-use Rattle.std.specs.List.{enumerate_from, filter, filter_map}
+use Rattle.std.proofs.Common.{◌≡◌, ◌∙◌, ℕ, ℤ, suc, ◌+◌, ◌≤◌, Bool, true, false, cond, List, [], ◌∷◌, length, Option, Some, None, arith, inl, inr, refl, ap, sym, subst, slice_get}
+use Rattle.std.specs.Prelude.{◌&&◌, unwrap_or, int_le}
+use Rattle.std.specs.List.{enumerate_from}
 use Rattle.std.specs.Option.{option_or}
-use Rattle.std.proofs.lemmas.Option.{slice_get-get_or, slice_get_past, slice_get_within}
+use Rattle.std.proofs.lemmas.Option.{slice_get_past}
 use Rattle.std.proofs.lemmas.Bool.{cases_lt}
 use Rattle.rp_base.specs.declared.want.Want.{Want}
 use Rattle.rp_areas.specs.Areas.{want_at}
@@ -11,17 +11,14 @@ use Rattle.rp_defs.specs.WellFormed.{HasPartner, IsSized, IsWellFormed}
 use Rattle.rp_defs.specs.declared.definition.Definition.{Definition}
 use Rattle.rp_defs.specs.declared.definition.Verity.{Verity}
 use Rattle.rp_defs.specs.declared.definition.Verity.TheVariants.{Off, Data, Hash}
-use Rattle.rp_demand.specs.declared.demand.Demand.{Demand}
 use Rattle.rp_demand.specs.declared.demand.Demand.TheVariants.{VerityHalf}
-use Rattle.rp_layout.specs.Again.{AsksFor, at_least, exactly}
+use Rattle.rp_layout.specs.Again.{AsksFor, exactly}
 use Rattle.rp_sizes.specs.declared.need.Fact.{Fact}
-use Rattle.rp_sizes.specs.declared.need.Need.{Need}
 use Rattle.rp_sizes.specs.Needs.{is_new, need_of, needs_of}
 use Rattle.rp_sizes.specs.News.{new_of, news_of}
 use Rattle.rp_sizes.specs.Sizes.{asked, asked_of, differ, first_demand, first_of, half_alone, half_demand, is_split, least_by, least_of, size_demand, sized, too_large}
 use Rattle.rp_sizes.proofs.AskedLemmas.{asked_length, sound_at, want_is}
 use Rattle.rp_plan.specs.Kept.{is_kept, kept_of}
-use Rattle.rp_place.specs.declared.fit.New.{New}
 use Rattle.rp_idle.proofs.Lists.{no_answers, no_past, none_passes}
 
 -- each definition of a list has a row

@@ -1,5 +1,5 @@
 -- An image on which definitions have nothing left to do, and a plan from definitions: own rules.
-use Rattle.std.specs.Prelude.{ℕ, ◌≡◌, ◌<◌, ◌^◌, ◌⊎◌, IsSome, List, [], All, Ok}
+use Rattle.std.specs.Prelude.{ℕ, ◌≡◌, ◌⊎◌, IsSome, List, [], All, Ok}
 use Rattle.rp_base.specs.Geometry.{IsSector}
 use Rattle.rp_base.specs.Plan.{IsTarget}
 use Rattle.rp_base.specs.Table.{TableFits}
@@ -31,7 +31,6 @@ pub record IsIdle (sector : ℕ) (image : List ℕ) (defs : List Definition) (se
 pub record IsPlanned (sector : ℕ) (old : List ℕ) (empty : Empty) (seen : Seen) (target : ℕ) (defs : List Definition) (facts : List Fact)
     (seed : Guid) (plan : Plan) : Type 0 where
   pub of_sector : IsSector sector
-  pub bytes : All (λ byte. byte < 2 ^ 8) old
   pub seen_of : accepted sector old empty ≡ Ok seen
   pub aim : IsTarget sector seen.sectors target
   pub grows : (target ≡ seen.sectors) ⊎ (seen.origin ≡ Primary)
