@@ -93,8 +93,8 @@ module _ (sector : ℕ) (image : List ℕ) (seen : Seen) (is : IsSector sector) 
   units_most = omega (arith, ok.most, of_image.len)
 
   first_low : seen.shown.first < 2 ^ 64 - 1
-  first_low = low seen.shown.sector seen.shown.entries seen.sectors seen.shown.first seen.shown.last (subst IsSector (sym sized.of_sector) is)
-      units_most sized.in_place.bounds sized.in_place.bounded.last
+  first_low = low seen.shown.sector seen.shown.entries seen.sectors seen.shown.first seen.shown.last
+      (subst IsSector (sym sized.of_sector) is) units_most sized.in_place.bounds sized.in_place.bounded.last
 
   -- a table that a place tells can be written
   told_writable : (which : Which) → told_at sector image which ≡ shows seen.shown → IsWritable seen.shown
@@ -116,7 +116,8 @@ module _ (sector : ℕ) (image : List ℕ) (seen : Seen) (is : IsSector sector) 
       let last : (blank sector (sectors_of sector image)).first ≤ (blank sector (sectors_of sector image)).last =
       subst (λ (t : Table). t.first ≤ t.last) shown_is sized.in_place.bounds in
       let start = blank_first sector (sectors_of sector image) in
-      (blank-seen sector (length image) seen is ok.whole ok.most ok.least (omega (arith, last, start)) shown_is (omega (arith, of_image.len))).writable
+      (blank-seen sector (length image) seen is ok.whole ok.most ok.least (omega (arith, last, start)) shown_is
+      (omega (arith, of_image.len))).writable
 
   by_origin : (origin : Origin) → TellBy origin sector image seen.shown → IsWritable seen.shown
   by_origin origins.Primary tell = told_writable Primary tell

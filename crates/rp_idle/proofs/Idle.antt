@@ -3,6 +3,8 @@ use Rattle.std.proofs.Common.{◌≡◌, ◌≢◌, ℕ, ◌^◌, ◌≤◌, Lis
 use Rattle.std.specs.Prelude.{◌-◌, IsSome, map, pos}
 use Rattle.rp_base.specs.Plan.{Fits, IsTarget}
 use Rattle.rp_base.specs.declared.guid.Guid.{Guid}
+use Rattle.rp_base.specs.declared.plan.Change.TheVariants.{Same}
+use Rattle.rp_base.specs.declared.plan.Note.{Note}
 use Rattle.rp_base.specs.declared.plan.Plan.{Plan}
 use Rattle.rp_base.specs.declared.seen.Mbr.{Mbr}
 use Rattle.rp_base.specs.declared.seen.Mbr.TheVariants as mbrs
@@ -17,12 +19,16 @@ use Rattle.rp_stops.specs.After.{mbr_after, seen_after}
 use Rattle.rp_stops.specs.Final.{IsFinal}
 use Rattle.rp_stops.specs.Order.{AreCallsOf}
 use Rattle.rp_stops.specs.Plans.{IsPlanFor}
-use Rattle.rp_stops.specs.Rows.{Contents, Fills}
+use Rattle.rp_stops.specs.Rows.{Contents, Fills, grown}
+use Rattle.rp_stops.proofs.Accepting.{accepted-sized}
 use Rattle.rp_stops.proofs.After.{accepted_after}
 use Rattle.rp_stops.proofs.Carried.{plan-given, plan-sector}
 use Rattle.rp_stops.proofs.Final.{final}
 use Rattle.rp_stops.proofs.OneFinal.{one_final}
 use Rattle.rp_steps.specs.Steps.{steps}
+use Rattle.rp_steps.specs.Calls.{calls, contents_calls}
+use Rattle.rp_steps.specs.Contents.{NotesFit, Sources, contents}
+use Rattle.rp_steps.proofs.Composed.{are_calls, fills}
 use Rattle.rp_steps.proofs.Idle.{no_steps}
 use Rattle.rp_areas.specs.declared.gaps.Area.{Area}
 use Rattle.rp_place.specs.declared.threshold.Placed.{Placed}
@@ -41,6 +47,7 @@ use Rattle.rp_idle.specs.Idle.{IsIdle, IsPlanned}
 use Rattle.rp_idle.proofs.Accepted.{plannable}
 use Rattle.rp_idle.proofs.Again.{goal_again, none_dropped_again}
 use Rattle.rp_idle.proofs.Matched.{all_matched, old_again}
+use Rattle.rp_idle.proofs.Noted.{notes_same}
 use Rattle.rp_idle.proofs.Wanted.{no_needs}
 
 right_mbr : (state : Mbr) → mbr_after state ≢ mbrs.Differs
@@ -102,7 +109,7 @@ module _ (seen : Seen) (target : ℕ) (defs : List Definition) (facts : List Fac
   abbrev pub IsAgain : List Fact → Guid → Seen → Type 0
   IsAgain others other again = (next : Plan) × (goal again target defs others other ≡ Ok next) × (next.goal ≡ plan.goal) ×
       (next.target ≡ target)
-      × (next.dropped ≡ [])
+      × (next.dropped ≡ []) × All (λ (note : Note). note.change ≡ Same) next.notes
 
   pub goal_stays : (again : Seen) (others : List Fact) (other : Guid) → again.shown ≡ plan.goal → IsAgain others other again
   goal_stays again others other shown =
@@ -113,6 +120,7 @@ module _ (seen : Seen) (target : ℕ) (defs : List Definition) (facts : List Fac
         refl,
         refl,
         none_dropped_again seen target defs facts seed made.0 made.1 plan given made.2 whole others again other,
+        notes_same shown_again defs others other (pos (2 ^ 31 - 1)) (old_again seen target defs facts seed made.0 made.1 plan given made.2 whole),
       )
 
   whole_target : IsTarget plan.goal.sector target target
@@ -182,10 +190,19 @@ module _ (sector : ℕ) (old : List ℕ) (empty : Empty) (seen : Seen) (target :
         steps_are = no_steps_again seen target defs facts seed plan ready aims is.definitions is.goal_is whole;
       }
 
-  -- the final image
-  pub idle_final : (body calls : List Call) (contents : Contents) (image : List ℕ) → plan.dropped ≡ [] → AreCallsOf seen plan body calls
+  -- the image on which they are done whole that gives the new rows these contents
+  idle_with : (body calls : List Call) (contents : Contents) (image : List ℕ) → plan.dropped ≡ [] → AreCallsOf seen plan body calls
       → Fills old plan contents body → IsFinal old seen plan contents image → IsIdle sector image defs seed
-  idle_final body calls contents image whole are fills_it final_is =
+  idle_with body calls contents image whole are fills_it final_is =
       let done = final old seen plan (plan-given sector old empty seen plan plan_for) body calls are contents fills_it in
       subst (λ i. IsIdle sector i defs seed) (one_final old seen plan contents (all_done old calls) image done final_is)
       (idle_after body calls whole are)
+
+  -- the final image
+  pub idle_final : (sources : Sources) (image : List ℕ) → plan.dropped ≡ [] → NotesFit plan
+      → IsFinal old seen plan (contents plan sources (grown old plan)) image → IsIdle sector image defs seed
+  idle_final sources image whole fit final_is =
+      let formed = plan_for.fits.well_formed in
+      let long = (accepted-sized sector old empty seen is.of_sector is.seen_of).1.len in
+      idle_with (contents_calls plan sources) (calls plan seen sources) (contents plan sources (grown old plan)) image whole
+      (are_calls seen plan sources formed fit) (fills seen plan sources old formed fit long) final_is

@@ -6,6 +6,7 @@ mod Kept
 mod Lists
 mod Matched
 mod Named
+mod Noted
 pub mod Public
 mod Rows
 mod Settled

@@ -6,5 +6,5 @@ returns-clause-done c sector old empty seen target defs facts seed plan body cal
     idle_after sector old empty seen target defs facts seed plan is body calls whole are
 
 pub returns-clause-final_image : goal.returns-clause-final_image
-returns-clause-final_image c sector old empty seen target defs facts seed plan body calls contents image is whole are fills final =
-    idle_final sector old empty seen target defs facts seed plan is body calls contents image whole are fills final
+returns-clause-final_image c sector old empty seen target defs facts seed plan sources image is whole fit final =
+    idle_final sector old empty seen target defs facts seed plan is sources image whole fit final
