@@ -120,7 +120,8 @@ module _ (seen : Seen) (target : ℕ) (defs : List Definition) (facts : List Fac
         refl,
         refl,
         none_dropped_again seen target defs facts seed made.0 made.1 plan given made.2 whole others again other,
-        notes_same shown_again defs others other (pos (2 ^ 31 - 1)) (old_again seen target defs facts seed made.0 made.1 plan given made.2 whole),
+        notes_same shown_again defs others other (pos (2 ^ 31 - 1)) (old_again seen target defs facts seed made.0 made.1 plan given made.2
+            whole),
       )
 
   whole_target : IsTarget plan.goal.sector target target

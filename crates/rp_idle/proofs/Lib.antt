@@ -1,5 +1,6 @@
 mod Accepted
 mod Again
+mod Computed
 mod Extents
 mod Idle
 mod Kept

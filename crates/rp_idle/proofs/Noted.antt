@@ -25,7 +25,8 @@ all_hold a b c d e f g ha hb hc hd he hf hg = rw (ha, hb, hc, hd, he, hf, hg) re
 
 -- a row is the same as itself
 same_itself : (row : Row) → same_row row row ≡ true
-same_itself row = all_hold _ _ _ _ _ _ _ (eq-eqb row.slot row.slot refl) (nat_list_eq_equiv.refl row.kind.0) (nat_list_eq_equiv.refl row.id.0)
+same_itself row = all_hold _ _ _ _ _ _ _ (eq-eqb row.slot row.slot refl) (nat_list_eq_equiv.refl row.kind.0)
+    (nat_list_eq_equiv.refl row.id.0)
     (eq-eqb row.start row.start refl) (eq-eqb row.size row.size refl) (eq-eqb row.attrs row.attrs refl) (nat_list_eq_equiv.refl row.name)
 
 abbrev pub IsSame : Note → Type 0
@@ -35,11 +36,13 @@ old_same : (matched : List (Option ℕ)) (rows : List Row) → All (λ (e : ℕ 
 old_same matched rows k d below =
     let l : k < length rows = omega (arith, below, length-enumerate_from 0 rows) in
     let row : Row = get_or rows k d.1 in
-    let at : get_or (enumerate_from 0 rows) k d ≡ (k, row) = get_or-enumerate_from 0 rows k d l ∙ ap (λ n. (n, get_or rows k d.1)) (zero-add k) in
+    let at : get_or (enumerate_from 0 rows) k d ≡ (k, row) = get_or-enumerate_from 0 rows k d l
+    ∙ ap (λ n. (n, get_or rows k d.1)) (zero-add k) in
     subst (λ (e : ℕ × Row). IsSame (old_note matched rows e)) (sym at)
     (ap (λ r. cond (same_row row r) Same Changed) (get_or_default rows k row d.1 l) ∙ ap (λ b. cond b Same Changed) (same_itself row))
 
-pub notes_same : (seen : Seen) (defs : List Definition) (facts : List Fact) (seed : Guid) (t : ℤ) → AllHave (matched_of seen.shown defs) defs
+pub notes_same : (seen : Seen) (defs : List Definition) (facts : List Fact) (seed : Guid) (t : ℤ)
+    → AllHave (matched_of seen.shown defs) defs
     → All IsSame (notes_of seen defs facts seed t seen.shown.rows)
 unfolding notes_of
 notes_same seen defs facts seed t have =
@@ -49,5 +52,6 @@ notes_same seen defs facts seed t have =
     All-append IsSame (map (old_note matched rows) (enumerate_from 0 rows))
     (map (new_note seed defs facts (first_free rows) files) (enumerate_from (first_free rows) (kept_of matched t defs)))
     (All-map IsSame (old_note matched rows) (enumerate_from 0 rows) (old_same matched rows))
-    (subst (λ (es : List (ℕ × Definition)). All IsSame (map (new_note seed defs facts (first_free rows) files) (enumerate_from (first_free rows) es)))
+    (subst (λ (es : List (ℕ × Definition)). All IsSame (map (new_note seed defs facts (first_free rows) files)
+    (enumerate_from (first_free rows) es)))
     (sym (none_kept matched defs have t)) (All-nil IsSame))
