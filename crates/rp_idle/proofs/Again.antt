@@ -174,9 +174,6 @@ module _ (seen : Seen) (target : ℕ) (defs : List Definition) (facts : List Fac
     abbrev pub shown_again : Seen
     shown_again = record next { shown = plan.goal }
 
-    abbrev pub greatest : ℤ
-    greatest = pos (2 ^ 31 - 1)
-
     abbrev nothing : Placed
     nothing = record { threshold = pos (2 ^ 31 - 1); areas = [] }
 
