@@ -1,0 +1,5 @@
+pub mod Dev
+pub mod Puts
+pub mod Waiting
+pub mod Written
+pub mod Taking
