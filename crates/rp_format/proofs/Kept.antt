@@ -1,6 +1,5 @@
 -- The blocks that wait: one more of them, and their writes.
-use Rattle.std.proofs.Common.{◌≡◌, ◌≢◌, ℕ, zero, suc, ◌+◌, ◌-◌, ◌*◌, ◌<◌, ◌≤◌, List, [], ◌∷◌, ◌++◌, length, get_or, map, take, drop, refl, sym, ◌∙◌, ap, ap₂, subst, arith, inl, append_assoc, drop-drop}
-use Rattle.std.specs.List.{range_with_len}
+use Rattle.std.proofs.Common.{◌≡◌, ℕ, ◌+◌, ◌*◌, ◌<◌, ◌≤◌, List, [], ◌∷◌, ◌++◌, length, get_or, take, drop, refl, sym, ◌∙◌, ap, ap₂, subst, arith, inl, append_assoc, drop-drop}
 use Rattle.std.specs.Prelude.{slice_set}
 use borrow.Rule.Slice.PartMut.{put_mid}
 use Rattle.std.proofs.lemmas.List.{get_or-set_other, get_or-set_same, map-append, take-append-drop}
@@ -9,8 +8,7 @@ use Rattle.rp_base.specs.Image.{bytes_at}
 use Rattle.rp_disk.specs.declared.call.Call.{Call}
 use Rattle.rp_disk.specs.declared.call.Call.TheVariants.{Write}
 use Rattle.rp_disk.specs.Stops.{Each}
-use Rattle.rp_disk.proofs.Agreeing.{get_or-overwritten}
-use Rattle.rp_disk.proofs.Ranges.{bytes_at-overwritten, bytes_at-done, length-bytes_at}
+use Rattle.rp_disk.proofs.Ranges.{bytes_at-overwritten, bytes_at-done}
 use Rattle.rp_disk.specs.Calls.{overwritten}
 use Rattle.rp_verity.proofs.LevelLemmas.{same_range}
 use Rattle.rp_format.specs.Puts.{EndBy, kept_puts, writes_of}
@@ -67,8 +65,8 @@ writes-split hash_at n k places blocks below =
     let calls : List Call = writes_of hash_at (kept_puts k places blocks) in (
       writes_of hash_at (drop (k + 1) all),
       ap (writes_of hash_at) parts ∙ writes-append hash_at (kept_puts (k + 1) places blocks) (drop (k + 1) all)
-      ∙ ap (λ (l : List Call). l ++ writes_of hash_at (drop (k + 1) all)) (writes-more hash_at k places blocks)
-      ∙ append_assoc calls (Write (hash_at + 4096 * (1 + get_or places k 0)) (bytes_at blocks (4096 * k) 4096) ∷ []) (writes_of hash_at (drop (k + 1) all)),
+          ∙ ap (λ (l : List Call). l ++ writes_of hash_at (drop (k + 1) all)) (writes-more hash_at k places blocks)
+          ∙ append_assoc calls (Write (hash_at + 4096 * (1 + get_or places k 0)) (bytes_at blocks (4096 * k) 4096) ∷ []) (writes_of hash_at (drop (k + 1) all)),
     )
 
 pub writes-are : (hash_at : ℕ) (puts : List (ℕ × List ℕ)) → Each IsWrite (writes_of hash_at puts)

@@ -1,25 +1,25 @@
 -- The order of a tree's blocks cut at a data block, and where their writes lie.
-use Rattle.std.proofs.Common.{◌≡◌, ℕ, zero, suc, ◌+◌, ◌-◌, ◌*◌, ◌<◌, ◌≤◌, ◌⊎◌, inl, inr, List, [], ◌∷◌, ◌++◌, length, get_or, map, flat_map, refl, sym, ◌∙◌, ap, arith, append_assoc, All}
+use Rattle.std.proofs.Common.{◌≡◌, ℕ, zero, suc, ◌+◌, ◌-◌, ◌*◌, ◌<◌, ◌≤◌, ◌⊎◌, inl, inr, List, [], ◌∷◌, ◌++◌, length, get_or, map, flat_map, refl, ◌∙◌, ap, arith, append_assoc, All}
 use Rattle.std.specs.List.{range_with_len}
 use Rattle.std.proofs.lemmas.Grind.{flat_map-append}
 use Rattle.std.proofs.lemmas.List.{map-append}
 use Rattle.std.proofs.lemmas.List.Elements.{All-append, All-head, All-map, All-nil, All-tail, All-weaker}
-use Rattle.rp_base.specs.Trees.{hash_blocks, levels}
+use Rattle.rp_base.specs.Trees.{levels}
 use Rattle.rp_disk.specs.declared.call.Call.{Call}
 use Rattle.rp_disk.specs.Ranges.{Apart}
 use Rattle.rp_disk.specs.Stops.{Each}
-use Rattle.rp_verity.specs.Order.{blocks_over, full_with, left_over, order, order_over}
+use Rattle.rp_verity.specs.Order.{blocks_over, full_with, left_over, order_over}
 use Rattle.rp_verity.specs.Puts.{placed}
 use Rattle.rp_verity.specs.Tree.{digest, stored_tree}
 use Rattle.rp_verity.proofs.Blocks.{are_digests}
 use Rattle.rp_verity.proofs.ShapeLemmas.{length-stored}
 use Rattle.rp_verity.proofs.TreeLemmas.{full_with-inside}
-use Rattle.rp_format.specs.Dev.{tree_writes}
+use Rattle.rp_steps.specs.Calls.{tree_writes}
 use Rattle.rp_format.specs.Puts.{EndBy, writes_of}
 use Rattle.rp_format.specs.Taking.{full_puts, left_puts}
 use Rattle.rp_format.specs.Written.{hash_calls}
 use Rattle.rp_format.specs.declared.tree.TreePlan.{TreePlan}
-use Rattle.rp_format.proofs.DevTrees.{IsBlock, stored_blocks}
+use Rattle.rp_steps.proofs.Trees.{IsBlock, stored_blocks}
 use Rattle.rp_format.proofs.Kept.{writes-append}
 
 -- the blocks that are full with the first so many data blocks
@@ -97,8 +97,8 @@ all-split-at tree taken k below =
     ∙ ap (λ (l : List Call). l ++ W (placed stored behind)) (so_far-more tree taken k) in (
       W (placed stored behind) ++ W (left_puts tree taken),
       all-split tree taken ∙ ap (λ (l : List Call). l ++ W (left_puts tree taken)) front
-      ∙ append_assoc (W (so_far_puts tree taken k) ++ W (full_puts tree taken (k + 1))) (W (placed stored behind)) (W (left_puts tree taken))
-      ∙ append_assoc (W (so_far_puts tree taken k)) (W (full_puts tree taken (k + 1))) (W (placed stored behind) ++ W (left_puts tree taken)),
+          ∙ append_assoc (W (so_far_puts tree taken k) ++ W (full_puts tree taken (k + 1))) (W (placed stored behind)) (W (left_puts tree taken))
+          ∙ append_assoc (W (so_far_puts tree taken k)) (W (full_puts tree taken (k + 1))) (W (placed stored behind) ++ W (left_puts tree taken)),
     )
 
 -- the places are those of the tree

@@ -1,12 +1,12 @@
 -- What a push leaves in the blocks that wait: none is refused.
-use Rattle.std.proofs.Common.{◌≡◌, ℕ, zero, suc, ◌+◌, ◌*◌, ◌%◌, ◌<◌, ◌≤◌, List, [], ◌∷◌, ◌++◌, length, take, map, refl, sym, ◌∙◌, ap, ap₂, arith, Bool, true, false, cond, eqb, length-take}
-use Rattle.std.specs.Prelude.{Some, Result, Ok, Err, IsErr, OnOk, OnErr}
+use Rattle.std.proofs.Common.{◌≡◌, ℕ, zero, suc, ◌+◌, ◌%◌, ◌<◌, ◌≤◌, List, [], ◌∷◌, ◌++◌, length, take, ◌∙◌, ap, ap₂, arith, Bool, true, false, cond, eqb, length-take}
+use Rattle.std.specs.Prelude.{Some, Result, Ok, Err, IsErr}
 use Rattle.std.proofs.lemmas.List.{length-map}
 use Rattle.rp_base.specs.Faults.{Rose}
-use Rattle.rp_base.specs.Trees.{hash_blocks, levels}
+use Rattle.rp_base.specs.Trees.{levels}
 use Rattle.rp_disk.specs.Made.{Made}
 use Rattle.rp_disk.specs.Runs.{MadeFirst}
-use Rattle.rp_verity.specs.Builder.{HasTaken, IsBuilder}
+use Rattle.rp_verity.specs.Builder.{HasTaken}
 use Rattle.rp_verity.specs.declared.builder.Builder.{Builder}
 use Rattle.rp_verity.specs.Order.{full_with, last_blocks, left_over, place_of}
 use Rattle.rp_verity.specs.Puts.{Added, AddedPart, placed}

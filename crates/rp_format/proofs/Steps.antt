@@ -1,9 +1,9 @@
 -- From data block to data block: what was taken and written so far.
-use Rattle.std.proofs.Common.{◌≡◌, ℕ, zero, suc, ◌+◌, ◌-◌, ◌*◌, ◌<◌, ◌≤◌, ◌⊎◌, inl, inr, List, [], ◌∷◌, ◌++◌, length, get_or, map, take, drop, replicate, refl, sym, ◌∙◌, ap, ap₂, subst, arith, append_assoc, append-nil, All, length-append}
+use Rattle.std.proofs.Common.{◌≡◌, ℕ, ◌+◌, ◌-◌, ◌*◌, ◌<◌, ◌≤◌, ◌⊎◌, inl, inr, List, [], ◌∷◌, ◌++◌, length, get_or, map, take, drop, replicate, refl, sym, ◌∙◌, ap, ap₂, subst, arith, append_assoc, append-nil, All, length-append}
 use Rattle.std.specs.Prelude.{Option, Some, None, Result, Ok, Err, IfOk, IfSome, IsErr, OnOk, OnErr}
 use Rattle.std.specs.List.{range_with_len}
 use Rattle.std.proofs.lemmas.List.{drop-drop, drop-take, take-take, take_all, length-replicate}
-use Rattle.std.proofs.lemmas.List.Elements.{All-append, All-cons, All-map, All-nil, All-weaker}
+use Rattle.std.proofs.lemmas.List.Elements.{All-append, All-cons, All-map, All-nil}
 use Rattle.std.proofs.lemmas.List.FromFn.{length-map-range_with_len, map-range_with_len_more}
 use Rattle.rp_base.specs.Image.{bytes_at}
 use Rattle.rp_base.specs.Trees.{hash_blocks, levels}
@@ -11,9 +11,9 @@ use Rattle.rp_base.specs.declared.faults.Failed.{Failed}
 use Rattle.rp_disk.specs.declared.call.Call.{Call}
 use Rattle.rp_disk.specs.Calls.{resized}
 use Rattle.rp_disk.specs.History.{IsLawful, shown}
-use Rattle.rp_disk.specs.Made.{Made, count_done, dones, history_of, history_told}
+use Rattle.rp_disk.specs.Made.{Made, dones, history_of, history_told}
 use Rattle.rp_disk.specs.Ranges.{Apart}
-use Rattle.rp_disk.specs.Runs.{AreFirst, BrokeOff, MadeFirst}
+use Rattle.rp_disk.specs.Runs.{BrokeOff, MadeFirst}
 use Rattle.rp_disk.specs.Stops.{Each}
 use Rattle.rp_disk.proofs.Agreeing.{length-resized}
 use Rattle.rp_disk.proofs.Ranges.{bytes_at-take, length-bytes_at}
@@ -29,10 +29,10 @@ use Rattle.rp_format.specs.Puts.{writes_of}
 use Rattle.rp_format.specs.Taking.{IsBlockAt, TakesBlock, WritesAll, WritesHashes, full_puts, left_puts}
 use Rattle.rp_format.specs.Written.{AreBlocks, AreShown, IsTreePlan, data_end, hash_calls, hash_end}
 use Rattle.rp_format.specs.declared.tree.TreePlan.{TreePlan}
-use Rattle.rp_format.proofs.DevTrees.{IsBlock}
+use Rattle.rp_steps.proofs.Trees.{IsBlock}
 use Rattle.rp_format.proofs.Kept.{writes-are}
 use Rattle.rp_format.proofs.Places.{all-split, all-split-at, apart_placed, filled-inside, filled_by, length-tree, map-range-split, so_far-more, so_far_puts, tree_blocks}
-use Rattle.rp_format.proofs.Told.{IsWrite, SameLength, SameRange, same_length, same_range}
+use Rattle.rp_format.proofs.Told.{SameLength, SameRange, same_length, same_range}
 
 -- the bytes of the data blocks that are shown
 abbrev pub row_bytes : TreePlan → List ℕ → List ℕ
@@ -168,7 +168,7 @@ so_far_more x tree plan first old builder after k mid new taken block so below l
       let whole : length (taken ++ block ∷ rest) ≡ tree.blocks = sym (ap length e) ∙ all in
       let whole-row : List (List ℕ) = taken ++ block ∷ rest in
       let both = more old mid new (writes_of tree.hash_at (so_far_puts tree whole-row k)) (writes_of tree.hash_at (full_puts tree whole-row (k + 1)))
-          (so.calls (block ∷ rest) whole) (takes.done taken rest so.has whole) in
+      (so.calls (block ∷ rest) whole) (takes.done taken rest so.has whole) in
       rw e (both ∙ ap (λ (l : List Call). old ++ dones l) (sym (so_far-more tree whole-row k)));
 }
 
@@ -261,18 +261,18 @@ pub so_far_broke : {T E : Type 0} (e : E) (tree : TreePlan) (plan : IsTreePlan t
 so_far_broke e tree plan first old builder after k mid new taken block so below lawful is takes =
     let front : List (List ℕ) = taken ++ block ∷ [] in
     let found = row_of tree first old k front below
-        (omega (arith, length-append taken (block ∷ []), so.count))
-        (All-append IsBlock taken (block ∷ []) so.whole (All-cons IsBlock block [] is.size (All-nil IsBlock)))
-        (more_shown tree first old mid k taken block below (length_so_far tree first old builder k mid taken so (omega arith) lawful)
-        (range_so_far tree plan first old builder k mid taken so below lawful) is so.shown) in
+    (omega (arith, length-append taken (block ∷ []), so.count))
+    (All-append IsBlock taken (block ∷ []) so.whole (All-cons IsBlock block [] is.size (All-nil IsBlock)))
+    (more_shown tree first old mid k taken block below (length_so_far tree first old builder k mid taken so (omega arith) lawful)
+    (range_so_far tree plan first old builder k mid taken so below lawful) is so.shown) in
     let rest : List (List ℕ) = found.0 in
     let one : front ++ rest ≡ taken ++ block ∷ rest = append_assoc taken (block ∷ []) rest in
     let count : length (taken ++ block ∷ rest) ≡ tree.blocks = sym (ap length one) ∙ found.1.count in
     let split = all-split-at tree (taken ++ block ∷ rest) k below in
     let made : MadeFirst old (hash_calls tree (taken ++ block ∷ rest)) new =
-        made_within old mid new (writes_of tree.hash_at (so_far_puts tree (taken ++ block ∷ rest) k))
-        (writes_of tree.hash_at (full_puts tree (taken ++ block ∷ rest) (k + 1))) split.0 (hash_calls tree (taken ++ block ∷ rest))
-        (so.calls (block ∷ rest) count) (takes.failed taken rest so.has count) split.1 in
+    made_within old mid new (writes_of tree.hash_at (so_far_puts tree (taken ++ block ∷ rest) k))
+    (writes_of tree.hash_at (full_puts tree (taken ++ block ∷ rest) (k + 1))) split.0 (hash_calls tree (taken ++ block ∷ rest))
+    (so.calls (block ∷ rest) count) (takes.failed taken rest so.has count) split.1 in
     (front ++ rest, found.1, found.2, subst (λ (l : List (List ℕ)). MadeFirst old (hash_calls tree l) new) (sym one) made)
 
 -- all were taken

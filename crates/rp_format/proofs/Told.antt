@@ -6,7 +6,7 @@ use Rattle.rp_base.specs.Faults.{CountsStray}
 use Rattle.rp_base.specs.Image.{bytes_at}
 use Rattle.rp_disk.specs.declared.call.Call.{Call}
 use Rattle.rp_disk.specs.declared.call.Call.TheVariants.{Write, Sync, SetLen}
-use Rattle.rp_disk.specs.Calls.{all_done, done, is_write}
+use Rattle.rp_disk.specs.Calls.{all_done, is_write}
 use Rattle.rp_disk.specs.History.{History, Did, IsLawful, all_did, shown}
 use Rattle.rp_disk.specs.Made.{Made, dones, history_of, history_told}
 use Rattle.rp_disk.specs.Ranges.{Apart, Inside}

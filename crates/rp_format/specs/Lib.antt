@@ -1,4 +1,3 @@
-pub mod Dev
 pub mod Puts
 pub mod Waiting
 pub mod Written

@@ -1,5 +1,5 @@
 -- What taking one data block, and all of them, makes of a disk: serves this crate's proofs.
-use Rattle.std.specs.Prelude.{ℕ, ◌≡◌, ◌+◌, ◌*◌, ◌<◌, ◌≤◌, List, [], ◌∷◌, ◌++◌, length, Option, Result, IfOk, IfSome, OnOk, OnErr}
+use Rattle.std.specs.Prelude.{ℕ, ◌≡◌, ◌+◌, ◌*◌, ◌≤◌, List, [], ◌∷◌, ◌++◌, length, Option, Result, IfOk, IfSome, OnOk, OnErr}
 use Rattle.rp_base.specs.Image.{bytes_at}
 use Rattle.rp_base.specs.Trees.{levels}
 use Rattle.rp_base.specs.declared.faults.Failed.{Failed}

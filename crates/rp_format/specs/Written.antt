@@ -8,7 +8,7 @@ use Rattle.rp_disk.specs.declared.call.Call.TheVariants.{Write}
 use Rattle.rp_disk.specs.History.{shown}
 use Rattle.rp_disk.specs.Made.{Made, dones, history_told}
 use Rattle.rp_disk.specs.Runs.{BrokeOff}
-use Rattle.rp_format.specs.Dev.{tree_writes}
+use Rattle.rp_steps.specs.Calls.{tree_writes}
 use Rattle.rp_verity.specs.Filled.{cut}
 use Rattle.rp_verity.specs.Superblock.{superblock}
 use Rattle.rp_verity.specs.Tree.{root_hash, stored_tree}

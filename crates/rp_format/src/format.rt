@@ -46,11 +46,7 @@ pub fn write_tree<D: Disk>(
 }
 
 // Reads the data blocks and writes the hash blocks. The answer is the root hash.
-fn write_hashes<D: Disk>(
-    disk: &mut D,
-    tree: &TreePlan,
-    room: &mut [u8],
-) -> Result<[u8; 32], Failed>
+fn write_hashes<D: Disk>(disk: &mut D, tree: &TreePlan, room: &mut [u8]) -> Result<[u8; 32], Failed>
     requires plan { IsTreePlan tree.now }
     requires room { 4096 * (levels tree.now.blocks + 1) ≤ length room.old }
     ensures first { D.first disk.new ≡ D.first disk.old }

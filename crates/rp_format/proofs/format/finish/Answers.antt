@@ -1,5 +1,5 @@
 -- The hash blocks that are left over wait, and are written.
-use Rattle.std.proofs.Common.{◌≡◌, ℕ, ◌+◌, ◌≤◌, ◌<◌, List, [], ◌++◌, length, refl, sym, subst, ◌∙◌, ap, arith, rules}
+use Rattle.std.proofs.Common.{◌≡◌, ℕ, ◌≤◌, List, ◌++◌, length, sym, subst, ◌∙◌, ap, arith}
 use Rattle.rp_base.specs.Trees.{levels}
 use Rattle.rp_disk.proofs.Runs.{on_err}
 use Rattle.rp_disk.specs.Made.{dones}
@@ -36,18 +36,18 @@ write_to-requires g c =
     let has : HasTaken c.args.builder c.args.tree.now.salt taken = c.requires.taken.1 in
     let count : length taken ≡ c.args.tree.now.blocks = sym has.pushed ∙ c.requires.builder.pushed in
     let are : puts_of c.finish.new.out ≡ left_puts c.args.tree.now taken =
-        finished_puts c.args.tree.now taken _ _ count c.requires.waiting.puts
-        (c.in_ok-root.ensures.puts c.args.tree.now.salt taken (record { salted = has.salted; pushed = has.pushed; room = has.room; root = has.root })) in
+    finished_puts c.args.tree.now taken _ _ count c.requires.waiting.puts
+    (c.in_ok-root.ensures.puts c.args.tree.now.salt taken (record { salted = has.salted; pushed = has.pushed; room = has.room; root = has.root })) in
     let ends : EndBy c.args.tree.now.hash_at 18446744073709551615 (left_puts c.args.tree.now taken) =
-        left_ends c.args.tree.now c.requires.plan taken 18446744073709551615 (let fits = c.requires.plan.hash_fits in omega arith) in
+    left_ends c.args.tree.now c.requires.plan taken 18446744073709551615 (let fits = c.requires.plan.hash_fits in omega arith) in
     record { ends = subst (EndBy c.args.tree.now.hash_at 18446744073709551615) (sym are) ends }
 
 pub returns-in_err-write_to-clause-failed : goal.returns-in_err-write_to-clause-failed
 returns-in_err-write_to-clause-failed g c = λ taken has.
     let count : length taken ≡ c.args.tree.now.blocks = sym has.pushed ∙ c.requires.builder.pushed in
     let are : puts_of c.finish.new.out ≡ left_puts c.args.tree.now taken =
-        finished_puts c.args.tree.now taken _ _ count c.requires.waiting.puts
-        (c.in_ok-root.ensures.puts c.args.tree.now.salt taken (record { salted = has.salted; pushed = has.pushed; room = has.room; root = has.root })) in
+    finished_puts c.args.tree.now taken _ _ count c.requires.waiting.puts
+    (c.in_ok-root.ensures.puts c.args.tree.now.salt taken (record { salted = has.salted; pushed = has.pushed; room = has.room; root = has.root })) in
     let made = broke_first _ _ _ c.in_err-write_to.ensures.ran.err in
     on_err c.from_residual-in_err-write_to.result
     (subst (λ (puts : List (ℕ × List ℕ)). MadeFirst (g.D.Disk.calls c.args.disk.now) (writes_of c.args.tree.now.hash_at puts) (g.D.Disk.calls c.write_to.new.disk)) are made)
@@ -56,8 +56,8 @@ pub returns-clause-done : goal.returns-clause-done
 returns-clause-done g c = λ taken has.
     let count : length taken ≡ c.args.tree.now.blocks = sym has.pushed ∙ c.requires.builder.pushed in
     let are : puts_of c.finish.new.out ≡ left_puts c.args.tree.now taken =
-        finished_puts c.args.tree.now taken _ _ count c.requires.waiting.puts
-        (c.in_ok-root.ensures.puts c.args.tree.now.salt taken (record { salted = has.salted; pushed = has.pushed; room = has.room; root = has.root })) in
+    finished_puts c.args.tree.now taken _ _ count c.requires.waiting.puts
+    (c.in_ok-root.ensures.puts c.args.tree.now.salt taken (record { salted = has.salted; pushed = has.pushed; room = has.room; root = has.root })) in
     c.in_ok-write_to.ensures.ran.ok
     ∙ ap (λ (puts : List (ℕ × List ℕ)). g.D.Disk.calls c.args.disk.now ++ dones (writes_of c.args.tree.now.hash_at puts)) are
 
@@ -67,8 +67,8 @@ returns-in_err-write_to-clause-strays g c =
     let has : HasTaken c.args.builder c.args.tree.now.salt taken = c.requires.taken.1 in
     let count : length taken ≡ c.args.tree.now.blocks = sym has.pushed ∙ c.requires.builder.pushed in
     let are : puts_of c.finish.new.out ≡ left_puts c.args.tree.now taken =
-        finished_puts c.args.tree.now taken _ _ count c.requires.waiting.puts
-        (c.in_ok-root.ensures.puts c.args.tree.now.salt taken (record { salted = has.salted; pushed = has.pushed; room = has.room; root = has.root })) in
+    finished_puts c.args.tree.now taken _ _ count c.requires.waiting.puts
+    (c.in_ok-root.ensures.puts c.args.tree.now.salt taken (record { salted = has.salted; pushed = has.pushed; room = has.room; root = has.root })) in
     stays_says (LieIn c.args.tree.now) _ _ _ _
     (stays_weaker (λ n. EndBy c.args.tree.now.hash_at n (puts_of c.finish.new.out)) (LieIn c.args.tree.now) _ _ _ _
     (λ n lies. subst (EndBy c.args.tree.now.hash_at n) (sym are) (left_ends c.args.tree.now c.requires.plan taken n lies.1))
@@ -80,8 +80,8 @@ returns-clause-strays g c =
     let has : HasTaken c.args.builder c.args.tree.now.salt taken = c.requires.taken.1 in
     let count : length taken ≡ c.args.tree.now.blocks = sym has.pushed ∙ c.requires.builder.pushed in
     let are : puts_of c.finish.new.out ≡ left_puts c.args.tree.now taken =
-        finished_puts c.args.tree.now taken _ _ count c.requires.waiting.puts
-        (c.in_ok-root.ensures.puts c.args.tree.now.salt taken (record { salted = has.salted; pushed = has.pushed; room = has.room; root = has.root })) in
+    finished_puts c.args.tree.now taken _ _ count c.requires.waiting.puts
+    (c.in_ok-root.ensures.puts c.args.tree.now.salt taken (record { salted = has.salted; pushed = has.pushed; room = has.room; root = has.root })) in
     stays_says (LieIn c.args.tree.now) _ _ _ _
     (stays_weaker (λ n. EndBy c.args.tree.now.hash_at n (puts_of c.finish.new.out)) (LieIn c.args.tree.now) _ _ _ _
     (λ n lies. subst (EndBy c.args.tree.now.hash_at n) (sym are) (left_ends c.args.tree.now c.requires.plan taken n lies.1))

@@ -1,14 +1,13 @@
 -- All data blocks are taken in turn.
-use Rattle.std.proofs.Common.{◌≡◌, ℕ, ◌+◌, ◌≤◌, List, [], ◌∷◌, ◌++◌, refl, sym, ◌∙◌, ap, subst, arith, rules}
+use Rattle.std.proofs.Common.{◌≡◌, ℕ, ◌≤◌, List, [], ◌∷◌, ◌++◌, refl, ◌∙◌, subst, arith}
 use Rattle.std.specs.Prelude.{IfSome}
 use Rattle.rp_disk.specs.History.{IsLawful}
-use Rattle.rp_disk.specs.Made.{Made, history_told}
-use Rattle.rp_verity.specs.Builder.{HasTaken}
-use Rattle.rp_format.specs.Taking.{IsAt, IsBlockAt, TakesBlock}
+use Rattle.rp_disk.specs.Made.{history_told}
+use Rattle.rp_format.specs.Taking.{IsAt, IsBlockAt}
 use Rattle.rp_format.specs.Written.{LieIn}
 use Rattle.rp_format.specs.declared.tree.TreePlan.{TreePlan}
-use Rattle.rp_format.proofs.Steps.{Reaches, SoFar, length_so_far, reaches_all, reaches_more, reaches_none, so_far_blocks, so_far_broke, so_far_done, so_far_left, so_far_more, so_far_none, so_far_shown, writes_err, writes_hashes, on_ok}
-use Rattle.rp_format.proofs.Told.{SameLength, Stays, stays_more, stays_none, stays_of, stays_says, told_so}
+use Rattle.rp_format.proofs.Steps.{Reaches, SoFar, length_so_far, reaches_all, reaches_more, reaches_none, so_far_blocks, so_far_broke, so_far_more, so_far_none, so_far_shown, writes_err, writes_hashes, on_ok}
+use Rattle.rp_format.proofs.Told.{SameLength, stays_more, stays_none, stays_of, stays_says, told_so}
 use Rattle.rp_format.proofs.format.write_hashes.Goals as goal
 
 pub loop-k-init : goal.loop-k-init
@@ -39,7 +38,7 @@ loop-k-preserved g c =
     let below = c.loop-k-test.true in
     let lawful : IfSome (history_told (g.D.Disk.first c.args.disk.now) (g.D.Disk.calls c.loop-k.disk)) IsLawful = rw first at (g.met.D.Disk.lawful c.loop-k.disk) in
     let same : SameLength (g.D.Disk.first c.args.disk.now) (g.D.Disk.calls c.args.disk.now) (g.D.Disk.calls c.loop-k.disk) =
-        length_so_far tree _ _ c.loop-k.builder c.loop-k.k _ so.0 so.1 (omega arith) lawful in
+    length_so_far tree _ _ c.loop-k.builder c.loop-k.k _ so.0 so.1 (omega arith) lawful in
     let took = c.in_ok-take_block.ensures.takes in
     let block : List ℕ = took.0 in
     let is : IsBlockAt tree c.loop-k.k (g.D.Disk.first c.args.disk.now) (g.D.Disk.calls c.loop-k.disk) block = rw first at took.1 in
@@ -74,7 +73,7 @@ returns-in_err-take_block-clause-strays g c =
     let below = c.loop-k-test.true in
     let lawful : IfSome (history_told (g.D.Disk.first c.args.disk.now) (g.D.Disk.calls c.loop-k.disk)) IsLawful = rw first at (g.met.D.Disk.lawful c.loop-k.disk) in
     let same : SameLength (g.D.Disk.first c.args.disk.now) (g.D.Disk.calls c.args.disk.now) (g.D.Disk.calls c.loop-k.disk) =
-        length_so_far tree _ _ c.loop-k.builder c.loop-k.k _ so.0 so.1 (omega arith) lawful in
+    length_so_far tree _ _ c.loop-k.builder c.loop-k.k _ so.0 so.1 (omega arith) lawful in
     stays_says (LieIn tree) _ _ _ _
     (stays_more (LieIn tree) _ _ _ _ _ _ same c.loop-k.invariant.strays (stays_of (LieIn tree) _ _ _ _ (rw first at c.take_block.ensures.strays)))
 
@@ -91,7 +90,7 @@ returns-clause-written g c =
     let all : c.loop-k.k ≡ tree.blocks = omega arith in
     let so = c.loop-k.invariant.so_far in
     let row : SoFar tree (g.D.Disk.first c.args.disk.now) (g.D.Disk.calls c.args.disk.now) c.loop-k.builder tree.blocks (g.D.Disk.calls c.loop-k.disk) so.0 =
-        subst (λ (k : ℕ). SoFar tree (g.D.Disk.first c.args.disk.now) (g.D.Disk.calls c.args.disk.now) c.loop-k.builder k (g.D.Disk.calls c.loop-k.disk) so.0) all so.1 in (
+    subst (λ (k : ℕ). SoFar tree (g.D.Disk.first c.args.disk.now) (g.D.Disk.calls c.args.disk.now) c.loop-k.builder k (g.D.Disk.calls c.loop-k.disk) so.0) all so.1 in (
       so.0,
       so_far_blocks tree _ _ _ _ so.0 row,
       so_far_shown tree _ _ _ _ so.0 row,
@@ -114,6 +113,6 @@ returns-clause-strays g c =
     let so = c.loop-k.invariant.so_far in
     let lawful : IfSome (history_told (g.D.Disk.first c.args.disk.now) (g.D.Disk.calls c.loop-k.disk)) IsLawful = rw first at (g.met.D.Disk.lawful c.loop-k.disk) in
     let same : SameLength (g.D.Disk.first c.args.disk.now) (g.D.Disk.calls c.args.disk.now) (g.D.Disk.calls c.loop-k.disk) =
-        length_so_far tree _ _ c.loop-k.builder c.loop-k.k _ so.0 so.1 (omega arith) lawful in
+    length_so_far tree _ _ c.loop-k.builder c.loop-k.k _ so.0 so.1 (omega arith) lawful in
     stays_says (LieIn tree) _ _ _ _
     (stays_more (LieIn tree) _ _ _ _ _ _ same c.loop-k.invariant.strays (stays_of (LieIn tree) _ _ _ _ (rw first at c.finish.ensures.strays)))

@@ -1,5 +1,4 @@
 use Rattle.std.proofs.Common.{◌≡◌, ℕ, List}
-use Rattle.rp_verity.specs.Builder.{HasTaken}
 use Rattle.rp_format.specs.Taking.{IsAt}
 use Rattle.rp_format.specs.Waiting.{IsEmpty}
 use Rattle.rp_format.specs.Written.{LieIn}

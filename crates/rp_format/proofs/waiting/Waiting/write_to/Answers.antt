@@ -1,14 +1,13 @@
 -- The writes so far are those of the first blocks that wait.
-use Rattle.std.proofs.Common.{◌≡◌, ◌+◌, ◌-◌, ◌*◌, ◌<◌, ◌≤◌, ◌^◌, ◌∷◌, [], ◌++◌, ℕ, List, length, refl, sym, ap, ◌∙◌, arith, rules, append-nil}
+use Rattle.std.proofs.Common.{◌≡◌, ◌-◌, ◌*◌, ◌<◌, ◌≤◌, ◌^◌, ◌++◌, ℕ, List, length, refl, sym, ap, ◌∙◌, arith, rules, append-nil}
 use Rattle.rp_base.specs.Image.{bytes_at}
 use Rattle.rp_disk.specs.declared.call.Call.{Call}
-use Rattle.rp_disk.specs.declared.call.Call.TheVariants.{Write}
 use Rattle.rp_disk.proofs.Ranges.{length-bytes_at}
 use Rattle.rp_disk.proofs.Runs.{broke_off_in, on_err, one_more}
 use Rattle.rp_disk.specs.Made.{dones}
 use Rattle.rp_format.specs.Puts.{EndBy, kept_puts, writes_of}
 use Rattle.rp_format.proofs.Kept.{ends-at, writes-are, writes-more, writes-split}
-use Rattle.rp_format.proofs.Told.{SameLength, Stays, same_length, stays_call, stays_more, stays_none, stays_says}
+use Rattle.rp_format.proofs.Told.{SameLength, same_length, stays_call, stays_more, stays_none, stays_says}
 use Rattle.rp_format.proofs.waiting.Waiting.write_to.Goals as goal
 
 pub loop-k-init : goal.loop-k-init

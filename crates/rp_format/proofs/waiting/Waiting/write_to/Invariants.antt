@@ -1,4 +1,4 @@
-use Rattle.std.proofs.Common.{◌≡◌, ◌++◌, ℕ}
+use Rattle.std.proofs.Common.{◌≡◌, ◌++◌}
 use Rattle.rp_disk.specs.Made.{dones}
 use Rattle.rp_format.specs.Puts.{EndBy, kept_puts, writes_of}
 use Rattle.rp_format.proofs.Told.{Stays}
