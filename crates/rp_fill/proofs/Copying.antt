@@ -18,9 +18,9 @@ use Rattle.rp_disk.proofs.Ranges.{length-all_done}
 use Rattle.rp_disk.proofs.Runs.{broke_off_in, history_of-dones, one_more, shown-all_did}
 use Rattle.rp_io.specs.Files.{Reads, content, passes}
 use Rattle.rp_io.specs.declared.stored.Stored.{Stored}
-use Rattle.rp_fill.specs.Calls.{in_pieces}
+use Rattle.rp_steps.specs.Calls.{in_pieces}
 use Rattle.rp_fill.specs.Copied.{CopiesPiece, IsCopyOf, IsRead, file_bytes}
-use Rattle.rp_fill.specs.Writes.{piece, pieces}
+use Rattle.rp_steps.specs.Writes.{piece, pieces}
 use Rattle.rp_fill.specs.declared.fault.FillFault.{FillFault}
 use Rattle.rp_fill.specs.declared.fault.FillFault.TheVariants.{Disk, Source}
 use Rattle.rp_fill.proofs.Pieces.{all_pieces, piece-put, piece_call, piece_in, pieces-inside, pieces-more, pieces-put, put_read, some_pieces}

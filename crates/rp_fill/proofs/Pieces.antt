@@ -12,8 +12,9 @@ use Rattle.rp_disk.specs.declared.call.Call.TheVariants.{Write}
 use Rattle.rp_disk.proofs.Agreeing.{get_or-resized, length-overwritten, length-resized}
 use Rattle.rp_disk.proofs.Blocks.{Each-append}
 use Rattle.rp_disk.proofs.Ranges.{bytes_at-done, bytes_at-overwritten, bytes_at-take, same_bytes}
-use Rattle.rp_fill.specs.Calls.{in_pieces}
-use Rattle.rp_fill.specs.Writes.{piece, pieces}
+use Rattle.rp_steps.specs.Calls.{in_pieces}
+use Rattle.rp_steps.specs.Writes.{piece, pieces}
+use Rattle.rp_steps.proofs.Pieces.{length-cut}
 
 -- the write of one piece
 abbrev pub piece_call : ℕ → List ℕ → ℕ → Call
@@ -112,10 +113,6 @@ piece-put at bytes read k from size =
 each_map : (P : Call → Type 0) (f : ℕ → Call) (a n : ℕ) → ((j : ℕ) → a ≤ j → j < a + n → P (f j)) → Each P (map f (range_with_len a n))
 each_map P f a zero each = tt
 each_map P f a (suc n) each = (each a (omega arith) (omega arith), each_map P f (a + 1) n (λ j low high. each j (omega arith) (omega arith)))
-
-pub length-cut : (bytes : List ℕ) (at n : ℕ) → length (bytes_at bytes at n) ≡ min n (length bytes - at)
-length-cut bytes at n =
-    ap length (bytes_at-take bytes at n) ∙ length-take n (drop at bytes) ∙ ap (λ (l : ℕ). min n l) (length-drop at bytes)
 
 -- the pieces lie in the range that they fill
 pub pieces-inside : (at : ℕ) (bytes : List ℕ) (n end : ℕ) → at + length bytes ≤ end → n ≤ pieces (length bytes) → Each (Inside end) (some_pieces at bytes n)

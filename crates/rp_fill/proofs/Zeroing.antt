@@ -5,8 +5,8 @@ use Rattle.rp_disk.specs.Made.{Made, Done, Broke, dones}
 use Rattle.rp_disk.specs.Runs.{BrokeOff}
 use Rattle.rp_disk.specs.declared.call.Call.TheVariants.{Write}
 use Rattle.rp_disk.proofs.Runs.{broke_off_in, one_more}
-use Rattle.rp_fill.specs.Calls.{in_pieces}
-use Rattle.rp_fill.specs.Writes.{piece, pieces}
+use Rattle.rp_steps.specs.Calls.{in_pieces}
+use Rattle.rp_steps.specs.Writes.{piece, pieces}
 use Rattle.rp_fill.proofs.Pieces.{all_pieces, piece_call, piece_in, pieces-more, some_pieces, zero_call}
 
 -- so many pieces of zeros were written

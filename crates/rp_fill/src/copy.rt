@@ -3,10 +3,10 @@ ghost use Rattle.rp_disk.specs.History.{shown};
 ghost use Rattle.rp_disk.specs.Made.{history_told};
 ghost use Rattle.rp_disk.specs.Runs.{Runs};
 ghost use Rattle.rp_io.specs.Files.{content, passes};
-ghost use Rattle.rp_fill.specs.Calls.{in_pieces};
+ghost use Rattle.rp_steps.specs.Calls.{in_pieces};
 ghost use Rattle.rp_fill.specs.Causes.{HasDiskCause, HasSourceCause};
 ghost use Rattle.rp_fill.specs.Copied.{CopiesPiece, IsCopyOf};
-ghost use Rattle.rp_fill.specs.Writes.{piece};
+ghost use Rattle.rp_steps.specs.Writes.{piece};
 
 use crate::FillFault;
 use crate::piece::{PIECE, pieces, size_of};

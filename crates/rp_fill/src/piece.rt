@@ -1,5 +1,5 @@
 ghost use Rattle.std.specs.Prelude.{◌≡◌, ◌-◌, ◌*◌, ◌<◌, ◌≤◌, min};
-ghost use Rattle.rp_fill.specs.Writes.{piece as piece_size, pieces as piece_count};
+ghost use Rattle.rp_steps.specs.Writes.{piece as piece_size, pieces as piece_count};
 
 /// The bytes of a piece.
 pub const PIECE: u64 = 262_144;

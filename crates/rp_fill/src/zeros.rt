@@ -3,8 +3,8 @@ ghost use Rattle.rp_base.specs.Faults.{HasCause};
 ghost use Rattle.rp_disk.specs.History.{shown};
 ghost use Rattle.rp_disk.specs.Made.{history_told};
 ghost use Rattle.rp_disk.specs.Runs.{Runs};
-ghost use Rattle.rp_fill.specs.Calls.{in_pieces};
-ghost use Rattle.rp_fill.specs.Writes.{piece};
+ghost use Rattle.rp_steps.specs.Calls.{in_pieces};
+ghost use Rattle.rp_steps.specs.Writes.{piece};
 
 use crate::piece::{PIECE, pieces, size_of};
 use rp_base::Failed;
