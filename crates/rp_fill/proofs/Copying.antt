@@ -181,9 +181,12 @@ copied_more told path len at k old now new read so from size is done =
 -- all pieces
 pub copied_all : (told : Option (List Stored)) (path : List ℕ) (len at k : ℕ) (old new : List Made) → CopiedSoFar told path len at k old new
     → k ≡ pieces len → (bytes : List ℕ) × IsCopyOf told path len bytes × (new ≡ old ++ dones (in_pieces at bytes))
-copied_all told path len at k old new so all =
-    (so.bytes, so.copy, so.made ∙ ap (λ l. old ++ dones l)
-    (ap (some_pieces at so.bytes) (all ∙ ap pieces (sym so.copy.size)) ∙ sym (all_pieces at so.bytes)))
+copied_all told path len at k old new so all = (
+  so.bytes,
+  so.copy,
+  so.made ∙ ap (λ l. old ++ dones l)
+      (ap (some_pieces at so.bytes) (all ∙ ap pieces (sym so.copy.size)) ∙ sym (all_pieces at so.bytes)),
+)
 
 -- broke off in a piece
 unfoldable pub Ended : Option (List Stored) → List ℕ → ℕ → ℕ → List Made → List Made → Type 0
@@ -196,13 +199,19 @@ unfolding Ended
 copied_part (Ok value) told path len at k old now new read so below size is = tt
 copied_part (Err Disk) told path len at k old now new read so below size is =
     let p = put_next told path len at k old now read so (omega arith) size is.0 in
-    let s = piece_in at p.bytes k (let all = p.copy.size in omega arith) in
-    (p.bytes, p.copy, broke_off_in old now new (some_pieces at p.bytes k) (Write (at + piece * k) read) s.0 (in_pieces at p.bytes)
-    (s.1 ∙ ap (λ c. some_pieces at p.bytes k ++ c ∷ s.0) p.next) p.made is.1)
+    let s = piece_in at p.bytes k (let all = p.copy.size in omega arith) in (
+      p.bytes,
+      p.copy,
+      broke_off_in old now new (some_pieces at p.bytes k) (Write (at + piece * k) read) s.0 (in_pieces at p.bytes)
+          (s.1 ∙ ap (λ c. some_pieces at p.bytes k ++ c ∷ s.0) p.next) p.made is.1,
+    )
 copied_part (Err Source) told path len at k old now new read so below size is =
-    let s = piece_in at so.bytes k (let all = so.copy.size in omega arith) in
-    (so.bytes, so.copy, broke_off_in old now new (some_pieces at so.bytes k) (piece_call at so.bytes k) s.0 (in_pieces at so.bytes)
-    s.1 so.made (inl is))
+    let s = piece_in at so.bytes k (let all = so.copy.size in omega arith) in (
+      so.bytes,
+      so.copy,
+      broke_off_in old now new (some_pieces at so.bytes k) (piece_call at so.bytes k) s.0 (in_pieces at so.bytes)
+          s.1 so.made (inl is),
+    )
 
 -- strays while pieces are written
 

@@ -12,12 +12,7 @@ use rp_disk::Disk;
 
 /// Writes so many zeros from a place on, piece by piece: pieces of 262,144 bytes, and a last one that may be shorter. The
 /// room has at least a piece's bytes.
-pub fn write_zeros<D: Disk>(
-    disk: &mut D,
-    at: u64,
-    len: u64,
-    room: &mut [u8],
-) -> Result<(), Failed>
+pub fn write_zeros<D: Disk>(disk: &mut D, at: u64, len: u64, room: &mut [u8]) -> Result<(), Failed>
     requires end { at + len < 2 ^ 64 }
     requires room { piece ≤ length room.old }
     ensures first { D.first disk.new ≡ D.first disk.old }

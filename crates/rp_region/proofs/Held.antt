@@ -65,8 +65,8 @@ copies_held region p b table sectors n x y is out p_is b_is long_x long_y are_x 
     let b_out = backup_out mid backup_run out refl in
     let other : 33 ≢ 0 = λ (e : 33 ≡ 0). omega (arith, e) in
     let of_x : bytes_of (written mid backup_run y) primary_run ≡ x =
-        written_other mid backup_run primary_run y mid_is b_out p_out other long_y
-        ∙ written_own region primary_run x is (primary_out region primary_run out refl) long_x in
+    written_other mid backup_run primary_run y mid_is b_out p_out other long_y
+    ∙ written_own region primary_run x is (primary_out region primary_run out refl) long_x in
     let of_y : bytes_of (written mid backup_run y) backup_run ≡ y = written_own mid backup_run y mid_is b_out long_y in
     rw (p_is, b_is) record {
       primary = ap (λ (l : List ℕ). take (length (exact table Primary sectors)) l) of_x ∙ begins n x (exact table Primary sectors) are_x;

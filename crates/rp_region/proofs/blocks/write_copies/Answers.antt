@@ -18,7 +18,7 @@ returns-clause-copies c =
     let l = c.requires.leased in
     let x = primary_size c.args.blocks.now.pool c.args.blocks.now.primary _ l.sound l.out l.primary c.bytes_mut-primary.ensures.value in
     let y = backup_size _ c.args.blocks.now.backup _ (region_written c.args.blocks.now.pool c.args.blocks.now.primary c.write_copy.new.run l.sound) l.out l.backup
-        c.bytes_mut-backup.ensures.value in
+    c.bytes_mut-backup.ensures.value in
     copies_held c.args.blocks.now.pool c.args.blocks.now.primary c.args.blocks.now.backup _ _ _ c.write_copy.new.run c.write_copy-2.new.run l.sound l.out l.primary l.backup
     (c.write_copy.auto.run ∙ x) (c.write_copy-2.auto.run ∙ y) c.write_copy.ensures c.write_copy-2.ensures
 
