@@ -1,5 +1,5 @@
 -- What holds of each step of a plan.
-use Rattle.std.proofs.Common.{◌≡◌, ℕ, ◌*◌, ◌<◌, Bool, true, false, cond, ltb, List, [], ◌∷◌, ◌++◌, length, refl, sym, subst, arith, All, flat_map}
+use Rattle.std.proofs.Common.{◌*◌, Bool, true, false, cond, ltb, List, [], ◌∷◌, ◌++◌, refl, sym, subst, arith, All, flat_map}
 use Rattle.std.proofs.lemmas.List.Elements.{All-append, All-cons, All-filter, All-nil, All-tail}
 use Rattle.rp_base.specs.Plan.{Noted, noted_of}
 use Rattle.rp_base.specs.declared.geometry.Which.{Which}

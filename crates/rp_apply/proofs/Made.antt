@@ -1,5 +1,5 @@
 -- What was prepared is ready.
-use Rattle.std.proofs.Common.{◌≡◌, ℕ, ◌≤◌, List, All, refl, sym, ap, ◌∙◌, subst}
+use Rattle.std.proofs.Common.{◌≡◌, ℕ, ◌≤◌, List, All, refl, subst}
 use Rattle.rp_base.specs.Geometry.{least_sectors}
 use Rattle.rp_base.specs.Plan.{IsWellFormed}
 use Rattle.rp_base.specs.declared.plan.Plan.{Plan}
@@ -10,9 +10,8 @@ use Rattle.rp_region.specs.declared.blocks.Blocks.{Blocks}
 use Rattle.rp_stops.specs.Order.{target_sectors}
 use Rattle.rp_steps.specs.Steps.{steps as steps_for}
 use Rattle.rp_steps.specs.declared.step.Step.{Step}
-use Rattle.rp_apply.specs.Ready.{IsReady, IsReadyFor}
+use Rattle.rp_apply.specs.Ready.{IsReadyFor}
 use Rattle.rp_apply.specs.Sourced.{NamesSource, paths_of}
-use Rattle.rp_apply.specs.declared.ready.Ready.{Ready}
 use Rattle.rp_apply.proofs.Named.{paths_named}
 
 pub ready_for : (plan kept : Plan) (seen copy : Seen) (defs : List Definition) (steps : List Step) (paths : List (List ℕ)) (blocks : Blocks) (n : ℕ)

@@ -1,5 +1,5 @@
 -- Each copy names the path of its source.
-use Rattle.std.proofs.Common.{◌≡◌, ◌≢◌, ℕ, ◌*◌, ◌+◌, ◌-◌, ◌<◌, ◌≤◌, Bool, true, false, cond, eqb, leb, List, [], ◌∷◌, ◌++◌, length, Option, Some, None, refl, sym, ap, ◌∙◌, subst, arith, All, IfSome, map}
+use Rattle.std.proofs.Common.{◌≡◌, ◌≢◌, ℕ, ◌*◌, ◌+◌, ◌-◌, Bool, true, false, cond, eqb, leb, List, [], ◌∷◌, ◌++◌, Option, Some, None, refl, arith, All, IfSome}
 use Rattle.std.specs.Option.{option_map_or}
 use Rattle.std.specs.Prelude.{IsSome, slice_get, unwrap_or, zip}
 use Rattle.std.proofs.lemmas.Bool.{eqb-false}
@@ -16,10 +16,10 @@ use Rattle.rp_base.specs.declared.table.Row.{Row}
 use Rattle.rp_defs.specs.declared.definition.Definition.{Definition}
 use Rattle.rp_steps.specs.Steps.{byte_count, copy_steps, from_byte, mebibyte, payload_steps, rest_steps, source_len, steps, tree_steps, zero_steps}
 use Rattle.rp_steps.specs.declared.step.Step.{Step}
-use Rattle.rp_steps.specs.declared.step.Step.TheVariants.{Copy, Tree, Zero}
+use Rattle.rp_steps.specs.declared.step.Step.TheVariants.{Copy, Zero}
 use Rattle.rp_apply.specs.Ready.{NamesPath}
 use Rattle.rp_apply.specs.Sourced.{NamesSource, path_in, paths_of}
-use Rattle.rp_apply.proofs.Every.{Everywhere, every_step}
+use Rattle.rp_apply.proofs.Every.{every_step}
 
 either : (P : Step → Type 0) (b : Bool) (xs ys : List Step) → All P xs → All P ys → All P (cond b xs ys)
 either P true xs ys x y = x

@@ -1,5 +1,5 @@
 -- Where the sources of steps are found: own rules.
-use Rattle.std.specs.Prelude.{ℕ, ◌≡◌, List, [], Option, Some, IfSome, IsSome, map, option_and_then, slice_get, slice_index_or, unwrap_or}
+use Rattle.std.specs.Prelude.{ℕ, ◌≡◌, List, [], Some, IfSome, IsSome, map, slice_get, slice_index_or, unwrap_or}
 use Rattle.rp_base.specs.declared.plan.Note.{Note}
 use Rattle.rp_defs.specs.declared.definition.Definition.{Definition}
 use Rattle.rp_io.specs.declared.stored.Stored.{Stored}

@@ -1,13 +1,13 @@
 -- What was written of a source so far.
-use Rattle.std.proofs.Common.{◌≡◌, ℕ, ◌+◌, ◌-◌, ◌*◌, ◌<◌, ◌≤◌, ◌⊎◌, inl, inr, min, Bool, true, false, List, [], ◌∷◌, ◌++◌, length, Option, Some, None, Result, Ok, Err, IfSome, OnOk, OnErr, refl, sym, ap, ◌∙◌, subst, arith, rules, replicate}
+use Rattle.std.proofs.Common.{◌≡◌, ℕ, ◌+◌, ◌-◌, ◌*◌, ◌<◌, ◌≤◌, inl, min, false, List, [], ◌∷◌, ◌++◌, length, Option, Some, None, Result, Ok, Err, IfSome, OnErr, refl, sym, ap, ◌∙◌, subst, arith, replicate}
 use Rattle.std.specs.Prelude.{IsErr, nat_lt, unwrap_or}
 use Rattle.std.proofs.lemmas.Bool.{le-ltb}
 use Rattle.std.proofs.lemmas.List.{append-nil, length-replicate}
-use Rattle.rp_base.specs.Faults.{CountsStray, Rose}
+use Rattle.rp_base.specs.Faults.{CountsStray}
 use Rattle.rp_base.specs.Image.{bytes_at}
 use Rattle.rp_disk.specs.Calls.{overwritten, resized}
-use Rattle.rp_disk.specs.History.{History, shown}
-use Rattle.rp_disk.specs.Made.{Made, Done, Broke, dones, history_of, history_told}
+use Rattle.rp_disk.specs.History.{shown}
+use Rattle.rp_disk.specs.Made.{Made, Done, dones, history_of, history_told}
 use Rattle.rp_disk.specs.Ranges.{Inside}
 use Rattle.rp_disk.specs.Runs.{BrokeOff, Runs}
 use Rattle.rp_disk.specs.Stops.{Each}

@@ -1,5 +1,5 @@
 -- Bytes that are written piece by piece, so many pieces of them.
-use Rattle.std.proofs.Common.{◌≡◌, ℕ, zero, suc, ◌+◌, ◌-◌, ◌*◌, ◌/◌, ◌<◌, ◌≤◌, ◌⊎◌, ⊎_elim, inl, inr, min, List, [], ◌∷◌, ◌++◌, length, take, drop, map, get_or, replicate, refl, sym, ap, ◌∙◌, subst, arith, append_assoc}
+use Rattle.std.proofs.Common.{◌≡◌, ℕ, zero, suc, ◌+◌, ◌-◌, ◌*◌, ◌<◌, ◌≤◌, ◌⊎◌, ⊎_elim, inl, inr, min, List, [], ◌∷◌, ◌++◌, length, take, drop, map, get_or, replicate, refl, sym, ap, ◌∙◌, subst, arith, append_assoc}
 use Rattle.std.specs.List.{range_with_len}
 use Rattle.std.proofs.lemmas.List.{drop-drop, ext_get_or, get_or-drop, get_or-replicate, get_or-take, length-drop, length-replicate, length-take, take-append-drop, take_all}
 use Rattle.std.proofs.lemmas.List.FromFn.{map-range_with_len_more}
@@ -10,7 +10,6 @@ use Rattle.rp_disk.specs.Stops.{Each}
 use Rattle.rp_disk.specs.declared.call.Call.{Call}
 use Rattle.rp_disk.specs.declared.call.Call.TheVariants.{Write}
 use Rattle.rp_disk.proofs.Agreeing.{get_or-resized, length-overwritten, length-resized}
-use Rattle.rp_disk.proofs.Blocks.{Each-append}
 use Rattle.rp_disk.proofs.Ranges.{bytes_at-done, bytes_at-overwritten, bytes_at-take, same_bytes}
 use Rattle.rp_steps.specs.Calls.{in_pieces}
 use Rattle.rp_steps.specs.Writes.{piece, pieces}

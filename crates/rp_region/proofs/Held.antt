@@ -1,16 +1,15 @@
 -- What the runs of copies hold.
-use Rattle.std.proofs.Common.{◌≡◌, ◌≢◌, ℕ, ◌+◌, ◌-◌, ◌*◌, ◌<◌, ◌≤◌, ◌⊎◌, inl, inr, List, ◌++◌, length, take, drop, refl, sym, ap, ◌∙◌, subst, arith}
+use Rattle.std.proofs.Common.{◌≡◌, ◌≢◌, ℕ, ◌+◌, ◌-◌, ◌*◌, ◌<◌, ◌≤◌, ◌⊎◌, inl, inr, List, ◌++◌, length, take, drop, refl, sym, ap, ◌∙◌, arith}
 use Rattle.std.specs.Prelude.{slice_index}
 use Rattle.std.proofs.lemmas.Bool.{cases_lt}
 use Rattle.std.proofs.lemmas.List.{length-append, length-drop, length-take, length-take-le, take_all}
 use Rattle.rp_base.specs.List.{rewritten}
-use Rattle.rp_base.specs.Geometry.{copy_bytes}
 use Rattle.rp_base.specs.declared.geometry.Which.TheVariants.{Primary, Backup}
 use Rattle.rp_base.specs.declared.table.Table.{Table}
 use Rattle.rp_gpt.specs.Copy.{exact}
 use Rattle.rp_pool.specs.Region.{IsOut, IsRegion, Region, Run, bytes_of, written}
 use Rattle.rp_pool.proofs.Public.{out_within, written_other, written_own}
-use Rattle.rp_region.specs.Region.{Holds, HoldsCopies, all_out, backup_run, primary_run}
+use Rattle.rp_region.specs.Region.{HoldsCopies, all_out, backup_run, primary_run}
 
 -- the runs of the copies are out
 pub primary_out : (region : Region) (run : Run) → region.out ≡ all_out → run ≡ primary_run → IsOut region run

@@ -1,4 +1,4 @@
-use Rattle.std.proofs.Common.{◌≡◌, ℕ, ◌+◌, ◌*◌, ◌≤◌, List, length, sym, ap, ◌∙◌, arith}
+use Rattle.std.proofs.Common.{◌∙◌, arith}
 use Rattle.rp_copies.proofs.Placed.{array_size, copy_long, stray_in}
 use Rattle.rp_copies.proofs.write.write_array.Goals as goal
 

@@ -1,4 +1,4 @@
-use Rattle.std.proofs.Common.{◌≡◌, ℕ, ◌≤◌, List, length, ap, arith}
+use Rattle.std.proofs.Common.{arith}
 use Rattle.rp_copies.proofs.Placed.{copy_long}
 use Rattle.rp_copies.proofs.write.write_header.Goals as goal
 

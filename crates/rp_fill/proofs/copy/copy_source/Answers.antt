@@ -1,8 +1,6 @@
-use Rattle.std.proofs.Common.{◌≡◌, ℕ, ◌+◌, ◌-◌, ◌*◌, ◌≤◌, min, List, length, take, refl, ap, ◌∙◌, arith, rules, sym, Err}
+use Rattle.std.proofs.Common.{◌≡◌, ℕ, ◌≤◌, List, length, take, refl, ◌∙◌, arith, rules, Err}
 use Rattle.std.proofs.lemmas.List.{length-take}
-use Rattle.rp_disk.proofs.Runs.{on_err}
-use Rattle.rp_steps.specs.Writes.{piece}
-use Rattle.rp_fill.proofs.Copying.{CopiedSoFar, Ended, Reaches, StaysIn, copied_all, copied_more, copied_none, copied_part_of, reaches, reaches_more, reaches_none, reaches_says, run_ended, stays_copied, stays_in, stays_none, stays_says}
+use Rattle.rp_fill.proofs.Copying.{copied_all, copied_more, copied_none, copied_part_of, reaches, reaches_more, reaches_none, reaches_says, run_ended, stays_copied, stays_in, stays_none, stays_says}
 use Rattle.rp_fill.proofs.copy.copy_source.Goals as goal
 
 pub loop-k-init : goal.loop-k-init

@@ -1,8 +1,8 @@
-use Rattle.std.proofs.Common.{◌≡◌, ℕ, ◌+◌, ◌-◌, ◌*◌, ◌≤◌, List, length, take, replicate, refl, ap, ◌∙◌, arith, rules, append-nil, sym}
+use Rattle.std.proofs.Common.{◌≡◌, ℕ, length, replicate, refl, arith, rules, append-nil, sym}
 use Rattle.std.proofs.lemmas.List.{length-replicate, length-take}
 use Rattle.rp_disk.proofs.Runs.{on_err}
-use Rattle.rp_fill.proofs.Copying.{StaysIn, stays_at, stays_none, stays_pieces, stays_says}
-use Rattle.rp_fill.proofs.Zeroing.{AreNext, zeros_all, zeros_more, zeros_part}
+use Rattle.rp_fill.proofs.Copying.{stays_at, stays_none, stays_pieces, stays_says}
+use Rattle.rp_fill.proofs.Zeroing.{zeros_all, zeros_more, zeros_part}
 use Rattle.rp_fill.proofs.zeros.write_zeros.Goals as goal
 
 pub loop-k-init : goal.loop-k-init

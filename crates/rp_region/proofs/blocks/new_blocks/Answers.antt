@@ -1,8 +1,8 @@
-use Rattle.std.proofs.Common.{◌≡◌, ℕ, List, ap}
-use Rattle.std.specs.Prelude.{replicate, slice_set}
+use Rattle.std.proofs.Common.{ap}
+use Rattle.std.specs.Prelude.{replicate}
 use Rattle.rp_pool.specs.Region.{Region}
 use Rattle.rp_region.specs.Region.{backup_run, levels_run, piece_run, primary_run}
-use Rattle.rp_region.proofs.Leasing.{Lent, fit_backup, fit_levels, fit_piece, fit_primary, is_free, lent_next}
+use Rattle.rp_region.proofs.Leasing.{fit_backup, fit_levels, fit_piece, fit_primary, is_free, lent_next}
 use Rattle.rp_region.proofs.blocks.new_blocks.Goals as goal
 
 pub lease-backup-requires-clause-free : goal.lease-backup-requires-clause-free

@@ -1,4 +1,4 @@
-use Rattle.std.proofs.Common.{◌≡◌, ℕ, List, ◌∙◌}
+use Rattle.std.proofs.Common.{◌∙◌}
 use Rattle.rp_region.proofs.Held.{backup_size, copies_held, primary_size, region_written}
 use Rattle.rp_region.proofs.blocks.write_copies.Goals as goal
 

@@ -1,4 +1,4 @@
-use Rattle.std.proofs.Common.{◌≡◌, List, subst, sym, ap, ◌∙◌}
+use Rattle.std.proofs.Common.{List, subst, sym, ap, ◌∙◌}
 use Rattle.rp_steps.specs.Writes.{AreCountable, writes}
 use Rattle.rp_steps.specs.declared.step.Step.{Step}
 use Rattle.rp_steps.proofs.Counted.{countable}
