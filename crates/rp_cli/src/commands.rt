@@ -1,30 +1,54 @@
 ghost use Rattle.std.specs.Prelude.{◌≡◌, ◌↔◌, IfOk, IsErr, map, string_bytes};
+ghost use Rattle.rp_base.specs.Geometry.{IsSector};
+ghost use Rattle.rp_cli.specs.Asked.{PlansAsked, request_of as request_of_line};
 ghost use Rattle.rp_outcome.specs.Causes.{HasCauses};
 ghost use Rattle.rp_outcome.specs.Device.{IsOnlyRead, device};
 ghost use Rattle.rp_outcome.specs.Output.{Refuses, output};
 ghost use Rattle.rp_outcome.specs.Refusals.{words_refusal};
+ghost use Rattle.rp_outcome.specs.Store.{store};
+ghost use Rattle.rp_planned.specs.Files.{HasFileCauses};
 ghost use Rattle.rp_show.specs.Shows.{Shows};
-ghost use Rattle.rp_words.specs.Line.{line_of};
+ghost use Rattle.rp_words.specs.Line.{line_of, text_in};
+ghost use Rattle.rp_words.specs.Values.{IsSize, paths_of};
 
+use rp_base::Memory;
 use rp_disk::Disk;
-use rp_io::Sink;
+use rp_io::{Folders, Sink, Sources};
 use rp_outcome::{Refusal, refuse};
+use rp_plan_command::plan;
+use rp_planned::Request;
 use rp_show::show;
-use rp_words::{Command, read_line};
+use rp_words::{Command, Line, Opt, read_line, read_paths, text_of};
 use std::alloc::Global;
 
-/// Does what the words ask for on a disk, prints to a sink, and answers the exit status. The words don't hold the
-/// program's name. The disk is the image; the word that names it is for the caller.
+/// Does what the words ask for on a disk, with folders of definitions and sources of contents, prints to a sink, and answers
+/// the exit status. The words don't hold the program's name. The disk is the image; the word that names it is for the
+/// caller.
 ///
-/// Statuses: 0 done; 2 the words aren't canonical; 4 the image isn't accepted; 7 the disk failed; 9 the sink failed
-/// once all else was done; 10 out of memory. A status but 0, 9 and 10 prints its line `error STATUS ..`.
-pub fn run<D: Disk, K: Sink>(alloc: Global, words: &[String], disk: &mut D, out: &mut K) -> u8
+/// Statuses: 0 done; 2 the words aren't canonical; 3 the definition files are no list of definitions; 4 the image isn't
+/// accepted; 5 what the definitions ask for can't be had; 7 the disk failed; 8 the folders or the sources failed; 9 the sink
+/// failed once all else was done; 10 out of memory. A status but 0, 9 and 10 prints its line `error STATUS ..`.
+#[tactic(auto, using(crate::proofs::Promised::plan_only_read, crate::proofs::Promised::plan_causes, crate::proofs::Promised::plan_files, crate::proofs::Promised::plan_words, crate::proofs::Promised::show_files, crate::proofs::Promised::words_files))]
+pub fn run<D: Disk, F: Folders, S: Sources, K: Sink>(
+    alloc: Global,
+    words: &[String],
+    disk: &mut D,
+    folders: &mut F,
+    sources: &mut S,
+    out: &mut K,
+) -> u8
     ensures words { (result ≡ 2) ↔ IsErr (line_of (map string_bytes words.now)) }
     ensures refused { IsErr (line_of (map string_bytes words.now))
         → Refuses (output K.told K.faults out.old) (output K.told K.faults out.new) words_refusal result }
     ensures show { IfOk (line_of (map string_bytes words.now)) (λ line. line.command ≡ Command.Show
         → Shows line.sector line.json
         (device D.first D.calls D.faults D.strays disk.old) (device D.first D.calls D.faults D.strays disk.new)
+        (output K.told K.faults out.old) (output K.told K.faults out.new) result) }
+    ensures plan { IfOk (line_of (map string_bytes words.now)) (λ line. line.command ≡ Command.Plan
+        → PlansAsked (request_of_line line) line.json (paths_of (text_in Opt.Definitions (map string_bytes words.now)))
+        (store F.told F.faults F.strays folders.old) (store F.told F.faults F.strays folders.new)
+        (device D.first D.calls D.faults D.strays disk.old) (device D.first D.calls D.faults D.strays disk.new)
+        (store S.told S.faults S.strays sources.old) (store S.told S.faults S.strays sources.new)
         (output K.told K.faults out.old) (output K.told K.faults out.new) result) }
 
     // Of every command: no call may change the disk, and a failure has its status.
@@ -33,13 +57,63 @@ pub fn run<D: Disk, K: Sink>(alloc: Global, words: &[String], disk: &mut D, out:
     ensures causes { HasCauses
         (device D.first D.calls D.faults D.strays disk.old) (device D.first D.calls D.faults D.strays disk.new)
         (output K.told K.faults out.old) (output K.told K.faults out.new) result }
+    ensures files { HasFileCauses
+        (store F.told F.faults F.strays folders.old) (store F.told F.faults F.strays folders.new)
+        (store S.told S.faults S.strays sources.old) (store S.told S.faults S.strays sources.new)
+        (output K.told K.faults out.old) (output K.told K.faults out.new) result }
 {
     match read_line(words) {
         Err(_) => refuse(out, &Refusal::words()),
         Ok(line) => match line.command {
             Command::Show => show(alloc, line.sector, line.json, disk, out),
+            Command::Plan => run_plan(alloc, line, words, disk, folders, sources, out),
             // No line asks for a command that isn't built yet.
             _ => refuse(out, &Refusal::words()),
         },
+    }
+}
+
+fn run_plan<D: Disk, F: Folders, S: Sources, K: Sink>(
+    alloc: Global,
+    line: Line,
+    words: &[String],
+    disk: &mut D,
+    folders: &mut F,
+    sources: &mut S,
+    out: &mut K,
+) -> u8
+    requires sector { IsSector line.sector }
+    requires size { IsSize line.size }
+    ensures { PlansAsked (request_of_line line) line.json (paths_of (text_in Opt.Definitions (map string_bytes words.now)))
+        (store F.told F.faults F.strays folders.old) (store F.told F.faults F.strays folders.new)
+        (device D.first D.calls D.faults D.strays disk.old) (device D.first D.calls D.faults D.strays disk.new)
+        (store S.told S.faults S.strays sources.old) (store S.told S.faults S.strays sources.new)
+        (output K.told K.faults out.old) (output K.told K.faults out.new) result }
+{
+    let dirs = match read_paths(alloc, text_of(Opt::Definitions, words)) {
+        Ok(dirs) => dirs,
+        Err(Memory) => return refuse(out, &Refusal::memory()),
+    };
+    plan(
+        alloc,
+        request_of(line),
+        line.json,
+        dirs.as_slice(),
+        disk,
+        folders,
+        sources,
+        out,
+    )
+}
+
+fn request_of(line: Line) -> Request
+    ensures { result ≡ request_of_line line }
+{
+    Request {
+        seed: line.seed,
+        arch: line.arch,
+        empty: line.empty,
+        size: line.size,
+        sector: line.sector,
     }
 }

@@ -1,16 +1,19 @@
 -- Lines that were worked out by hand come out of the definition.
-use Rattle.std.proofs.Common.{Some, None, Option, ◌≡◌, refl, ℕ, List, [], ◌∷◌, Bool, true, false, replicate}
+use Rattle.std.proofs.Common.{Some, None, ◌≡◌, refl, ℕ, List, [], ◌∷◌, Bool, true, false, replicate}
 use Rattle.std.specs.Option.{option_map_or}
 use Rattle.std.specs.Prelude.{codes, Ok, Err}
-use Rattle.rp_types.specs.declared.arch.Arch.TheVariants.{X86_64}
-use Rattle.rp_words.specs.declared.fault.WordFault.TheVariants.{NoCommand, UnknownCommand, NotOption, UnknownOption, OtherCommand, Twice, BadValue, NoImage}
+use Rattle.rp_gpt.specs.declared.table_fault.Empty.TheVariants.{Refuse, Allow}
+use Rattle.rp_types.specs.declared.arch.Arch.TheVariants.{X86_64, Arm64}
+use Rattle.rp_words.specs.declared.fault.WordFault.TheVariants.{NoCommand, UnknownCommand, NotOption, UnknownOption, OtherCommand, Twice, BadValue, Missing, NoImage}
 use Rattle.rp_words.specs.declared.line.Line.{Line}
 use Rattle.rp_words.specs.declared.table.Command.TheVariants.{Show}
-use Rattle.rp_words.specs.declared.table.Opt.TheVariants.{Json, SectorSize}
+use Rattle.rp_words.specs.declared.table.Opt.TheVariants.{Definitions, Json, SectorSize, Seed, Size}
 use Rattle.rp_words.specs.Faults.{entry_called, first_fault, missing}
 use Rattle.rp_words.specs.Help.{built_text, command_text, offered_text, option_text}
-use Rattle.rp_words.specs.Hint.{entry_of, hint_of}
-use Rattle.rp_words.specs.Line.{command_of, line_of}
+use Rattle.rp_words.specs.Entry.{entry_of}
+use Rattle.rp_words.specs.Hint.{hint_of}
+use Rattle.rp_words.specs.Line.{arch_in, command_of, empty_in, line_of, size_of_words, text_in}
+use Rattle.rp_words.specs.Values.{paths_of}
 use Rattle.rp_words.specs.Table.{CommandEntry, commands, options}
 use Rattle.rp_words.specs.Words.{first_of}
 use Rattle.std.specs.Str.{bytes_eq}
@@ -24,6 +27,7 @@ show json sector = record {
   command = Show;
   seed = record { 0 = replicate 16 0 };
   arch = X86_64;
+  empty = Refuse;
   size = 0;
   json = json;
   sector = sector;
@@ -86,6 +90,51 @@ hint_at_a_value = refl
 hint_without_an_image : hint_of (codes "show" ∷ []) ≡ Some ([], codes "no image is given, as the last word", [])
 unfolding command_of commands first_fault missing entry_called options
 hint_without_an_image = refl
+
+-- what `plan` wants
+without_definitions : line_of (codes "plan" ∷ codes "image" ∷ []) ≡ Err (Missing Definitions)
+unfolding command_of commands first_fault missing entry_called options
+without_definitions = refl
+
+without_a_seed : line_of (codes "plan" ∷ codes "--definitions=a" ∷ codes "image" ∷ []) ≡ Err (Missing Seed)
+unfolding command_of commands first_fault missing entry_called options
+without_a_seed = refl
+
+a_bad_seed : line_of (codes "plan" ∷ codes "--seed=x" ∷ codes "image" ∷ []) ≡ Err (BadValue 1 Seed)
+unfolding command_of commands first_fault missing entry_called options guid_of
+a_bad_seed = refl
+
+no_path_may_be_empty : line_of (codes "plan" ∷ codes "--definitions=a::b" ∷ codes "image" ∷ []) ≡ Err (BadValue 1 Definitions)
+unfolding command_of commands first_fault missing entry_called options
+no_path_may_be_empty = refl
+
+too_large_a_size : line_of (codes "plan" ∷ codes "--size=17T" ∷ codes "image" ∷ []) ≡ Err (BadValue 1 Size)
+unfolding command_of commands first_fault missing entry_called options size_of
+too_large_a_size = refl
+
+-- values that the words give, and others by default
+words_of_plan : List (List ℕ)
+words_of_plan = codes "--size=1048575" ∷ codes "--definitions=a:b" ∷ codes "--arch=arm64" ∷ codes "--empty=allow" ∷ codes "image" ∷ []
+
+a_size_is_rounded_up : size_of_words words_of_plan ≡ 1048576
+unfolding words_of_plan entry_called options size_of
+a_size_is_rounded_up = refl
+
+an_architecture : arch_in words_of_plan ≡ Arm64
+unfolding words_of_plan entry_called options
+an_architecture = refl
+
+an_image_without_a_table : empty_in words_of_plan ≡ Allow
+unfolding words_of_plan entry_called options
+an_image_without_a_table = refl
+
+its_folders : paths_of (text_in Definitions words_of_plan) ≡ codes "a" ∷ codes "b" ∷ []
+unfolding words_of_plan entry_called entry_of options
+its_folders = refl
+
+no_size_by_default : size_of_words (codes "image" ∷ []) ≡ 0
+unfolding entry_called options size_of
+no_size_by_default = refl
 
 -- what `--help` prints of a command, and of an option
 command_in_help : List ℕ → List ℕ

@@ -1,6 +1,7 @@
 pub mod Built
 mod Commands
 mod Computed
+mod Cutting
 mod First
 mod Hyphens
 mod Numbers

@@ -6,7 +6,7 @@ use Rattle.rp_words.specs.declared.table.Command.{Command}
 use Rattle.rp_words.specs.declared.table.Opt.{Opt}
 use Rattle.rp_words.specs.declared.table.OptionRow.{OptionRow}
 use Rattle.rp_words.specs.Faults.{called, wanting}
-use Rattle.rp_words.specs.Hint.{own}
+use Rattle.rp_words.specs.Entry.{own}
 use Rattle.rp_words.specs.Table.{Entry, option_entry, options}
 use Rattle.rp_words.specs.Words.{first_of}
 use Rattle.rp_words.proofs.First.{first_in_map}

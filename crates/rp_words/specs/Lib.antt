@@ -1,3 +1,4 @@
+pub mod Entry
 pub mod Faults
 pub mod Help
 pub mod Hint

@@ -2,6 +2,8 @@
 use Rattle.std.specs.Prelude.{ℕ, ◌-◌, List, [], ◌∷◌, Bool, not, ◌&&◌, if◌then◌else◌, codes, length, take, replicate, Option, Some, None, option_map, Result, Ok, Err, unwrap_or}
 use Rattle.std.specs.Option.{option_map_or}
 use Rattle.std.specs.Str.{bytes_eq}
+use Rattle.rp_gpt.specs.declared.table_fault.Empty.{Empty}
+use Rattle.rp_gpt.specs.declared.table_fault.Empty.TheVariants.{Refuse, Allow, Require}
 use Rattle.rp_types.specs.Guids.{guid_of}
 use Rattle.rp_types.specs.declared.arch.Arch.{Arch}
 use Rattle.rp_types.specs.declared.arch.Arch.TheVariants.{X86_64, Arm64}
@@ -10,6 +12,8 @@ use Rattle.rp_words.specs.declared.table.Command.{Command}
 use Rattle.rp_words.specs.declared.table.CommandRow.{CommandRow}
 use Rattle.rp_words.specs.declared.fault.WordFault.{WordFault}
 use Rattle.rp_words.specs.declared.fault.WordFault.TheVariants.{NoCommand, UnknownCommand, Missing, NoImage}
+use Rattle.rp_words.specs.declared.table.Opt.{Opt}
+use Rattle.rp_words.specs.Entry.{name_text}
 use Rattle.rp_words.specs.Faults.{entry_called, first_fault, missing}
 use Rattle.rp_words.specs.Table.{CommandEntry, commands}
 use Rattle.rp_words.specs.Values.{number_in, size_in}
@@ -27,12 +31,25 @@ command_of name = first_of (named name) commands
 abbrev pub value_or : List ℕ → List (List ℕ) → List ℕ
 value_or name words = unwrap_or (value_in name words) (option_map_or (λ entry. entry.1) (entry_called name) [])
 
+-- the text of an option
+abbrev pub text_in : Opt → List (List ℕ) → List ℕ
+text_in option words = value_or (name_text option) words
+
 -- whether an option has this value
 abbrev pub is_set : List ℕ → List ℕ → List (List ℕ) → Bool
 is_set name value words = bytes_eq (value_or name words) value
 
 abbrev pub arch_in : List (List ℕ) → Arch
 arch_in words = if is_set (codes "arch") (codes "arm64") words then Arm64 else X86_64
+
+abbrev pub empty_in : List (List ℕ) → Empty
+empty_in words =
+    if is_set (codes "empty") (codes "allow") words then Allow
+    else if is_set (codes "empty") (codes "require") words then Require
+    else Refuse
+
+abbrev pub size_of_words : List (List ℕ) → ℕ
+size_of_words words = unwrap_or (size_in (value_or (codes "size") words)) 0
 
 abbrev pub sector_in : List (List ℕ) → ℕ
 sector_in words = if is_set (codes "sector-size") (codes "4096") words then 4096 else 512
@@ -43,7 +60,8 @@ line_by command words = record {
   command = command;
   seed = unwrap_or (guid_of (value_or (codes "seed") words)) (record { 0 = replicate 16 0 });
   arch = arch_in words;
-  size = unwrap_or (size_in (value_or (codes "size") words)) 0;
+  empty = empty_in words;
+  size = size_of_words words;
   json = is_set (codes "json") (codes "short") words;
   sector = sector_in words;
   factory_reset = is_set (codes "factory-reset") (codes "on") words;

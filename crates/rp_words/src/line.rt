@@ -1,18 +1,21 @@
 //! What a command line asks for, read without memory.
 
 ghost use Rattle.std.specs.Prelude.{◌≡◌, [], IfOk, map, string_bytes};
-ghost use Rattle.rp_words.specs.Line.{arch_in as arch_in_words, command_of as command_of_name, is_set as is_set_in, line_by as line_by_words, line_of, line_with as line_with_words, named as named_entry, options_in as options_in_words, sector_in as sector_in_words, value_or as value_or_default};
+ghost use Rattle.rp_words.specs.Line.{arch_in as arch_in_words, command_of as command_of_name, empty_in as empty_in_words, is_set as is_set_in, line_by as line_by_words, line_of, line_with as line_with_words, named as named_entry, options_in as options_in_words, sector_in as sector_in_words, size_of_words as size_in_words, text_in, value_or as value_or_default};
 ghost use Rattle.rp_base.specs.Geometry.{IsSector};
 ghost use Rattle.std.specs.Option.{option_map_or};
 ghost use Rattle.rp_words.specs.Faults.{entry_called};
 ghost use Rattle.rp_words.specs.Table.{command_entry};
+ghost use Rattle.rp_words.specs.Values.{IsSize};
 ghost use Rattle.rp_words.specs.Words.{first_of, is_image as is_image_word, last_of};
 
+use crate::entry::name;
 use crate::fault::{WordFault, first_fault, missing, option_called};
-use crate::table::{Command, CommandEntry, CommandRow, commands};
+use crate::table::{Command, CommandEntry, CommandRow, Opt, commands};
 use crate::values::{read_number, read_size};
 use crate::words::{is_image, value_in};
 use rp_base::Guid;
+use rp_gpt::Empty;
 use rp_types::{Arch, read_guid};
 
 /// What canonical words ask for: a command, and the values of its options that aren't texts, as they are given or by
@@ -22,6 +25,8 @@ pub struct Line {
     pub command: Command,
     pub seed: Guid,
     pub arch: Arch,
+    /// Whether the image may, or has to, show no table.
+    pub empty: Empty,
     /// Bytes, a multiple of 4,096 and at most 2^44; 0 where no size is asked for.
     pub size: u64,
     pub json: bool,
@@ -31,10 +36,18 @@ pub struct Line {
     pub number: u8,
 }
 
+/// The text of an option in canonical words: the one that they give, or the one that stands where none is given.
+pub fn text_of(option: Opt, words: &[String]) -> &str
+    ensures { result.now ≡ text_in option (map string_bytes words.now) }
+{
+    value_or(name(option), words)
+}
+
 /// The line of words, which don't hold the program's name, or the first thing that is wrong with them.
 pub fn read_line(words: &[String]) -> Result<Line, WordFault>
     ensures line { result ≡ line_of (map string_bytes words.now) }
     ensures sector { IfOk result (λ line. IsSector line.sector) }
+    ensures size { IfOk result (λ line. IsSize line.size) }
 {
     let [command, words @ ..] = words else {
         return Err(WordFault::NoCommand);
@@ -49,6 +62,7 @@ pub fn read_line(words: &[String]) -> Result<Line, WordFault>
 fn line_with(row: CommandRow, words: &[String]) -> Result<Line, WordFault>
     ensures line { result ≡ line_with_words row (map string_bytes words.now) }
     ensures sector { IfOk result (λ line. IsSector line.sector) }
+    ensures size { IfOk result (λ line. IsSize line.size) }
 {
     if let Some(fault) = first_fault(row.command, options_in(row.image, words)) {
         return Err(fault);
@@ -87,12 +101,14 @@ fn last(words: &[String]) -> &str
 fn line_by(command: Command, words: &[String]) -> Line
     ensures line { result ≡ line_by_words command (map string_bytes words.now) }
     ensures sector { IsSector result.sector }
+    ensures size { IsSize result.size }
 {
     Line {
         command,
         seed: read_guid(value_or("seed", words)).unwrap_or(Guid([0; 16])),
         arch: arch_in(words),
-        size: read_size(value_or("size", words)).unwrap_or(0),
+        empty: empty_in(words),
+        size: size_in(words),
         json: is_set("json", "short", words),
         sector: sector_in(words),
         factory_reset: is_set("factory-reset", "on", words),
@@ -107,6 +123,28 @@ fn arch_in(words: &[String]) -> Arch
         Arch::Arm64
     } else {
         Arch::X86_64
+    }
+}
+
+fn empty_in(words: &[String]) -> Empty
+    ensures { result ≡ empty_in_words (map string_bytes words.now) }
+{
+    if is_set("empty", "allow", words) {
+        Empty::Allow
+    } else if is_set("empty", "require", words) {
+        Empty::Require
+    } else {
+        Empty::Refuse
+    }
+}
+
+fn size_in(words: &[String]) -> u64
+    ensures bytes { result ≡ size_in_words (map string_bytes words.now) }
+    ensures size { IsSize result }
+{
+    match read_size(value_or("size", words)) {
+        Some(size) => size,
+        None => 0,
     }
 }
 

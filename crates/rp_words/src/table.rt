@@ -77,7 +77,7 @@ pub(crate) type OptionEntry = (
 pub(crate) static COMMANDS: [CommandEntry; 8] = [
     ("show", CommandRow { command: Command::Show, built: true, image: true },
         "prints the table of an image"),
-    ("plan", CommandRow { command: Command::Plan, built: false, image: true },
+    ("plan", CommandRow { command: Command::Plan, built: true, image: true },
         "prints what is to become of the table"),
     ("apply", CommandRow { command: Command::Apply, built: false, image: true },
         "changes the image as plan prints it"),
@@ -123,7 +123,7 @@ pub(crate) static OPTIONS: [OptionEntry; 11] = [
         show: MAY, plan: MAY, apply: MAY, check: MAY, dissect: MAY, policy: NEVER, make: NEVER, compare: NEVER },
         "the bytes of a sector of the disk"),
     ("factory-reset", "off", "off|on", OptionRow { option: Opt::FactoryReset,
-        show: NEVER, plan: MAY, apply: MAY, check: NEVER, dissect: NEVER, policy: NEVER, make: NEVER, compare: NEVER },
+        show: NEVER, plan: NEVER, apply: MAY, check: NEVER, dissect: NEVER, policy: NEVER, make: NEVER, compare: NEVER },
         "whether partitions with FactoryReset=yes are made anew"),
     ("policy", "*", "POLICY", OptionRow { option: Opt::Policy,
         show: NEVER, plan: NEVER, apply: NEVER, check: NEVER, dissect: MAY, policy: MUST, make: NEVER, compare: MUST },

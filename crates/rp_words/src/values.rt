@@ -1,11 +1,13 @@
 //! The values of options.
 
-ghost use Rattle.std.specs.Prelude.{◌≡◌, ◌≤◌, ◌==◌, ◌^◌, slice_index};
+ghost use Rattle.std.specs.Prelude.{◌≡◌, ◌≤◌, ◌==◌, ◌^◌, IfOk, IfSome, option_map, slice_index};
 ghost use Rattle.rp_values.specs.Numbers.{at_most};
-ghost use Rattle.rp_words.specs.Values.{are_paths as are_paths_in, is_value as is_value_of, number_in, rounded as rounded_up, size_in};
+ghost use Rattle.rp_words.specs.Values.{IsSize, are_paths as are_paths_in, before_colon as before_colon_in, behind_colon as behind_colon_in, is_value as is_value_of, number_in, paths_of, rounded as rounded_up, size_in};
 
 use crate::table::Opt;
+use rp_base::{List, Memory, Text};
 use rp_types::read_guid;
+use std::alloc::Global;
 
 /// Whether a text is the paths of folders, one at least, with colons between them, none of them empty.
 #[tactic(auto, using(crate::proofs::Paths::at_colon, crate::proofs::Paths::at_other, crate::proofs::Paths::at_end))]
@@ -23,6 +25,41 @@ pub(crate) fn are_paths(text: &str) -> bool
         }
     }
     begun
+}
+
+/// The paths that a text has, with colons between them.
+#[tactic(auto, using(crate::proofs::Cutting::paths_more, crate::proofs::Cutting::paths_all, crate::proofs::Cutting::paths_shorter))]
+pub fn read_paths(alloc: Global, text: &str) -> Result<List<Text>, Memory>
+    ensures { IfOk result (λ paths. paths ≡ paths_of text.now) }
+{
+    let mut paths = List::new(alloc);
+    let mut rest = text;
+    'cuts: while let Some(more) = behind_colon(rest) {
+        paths.push(Text::from_str(alloc, before_colon(rest))?)?;
+        rest = more;
+    }
+    paths.push(Text::from_str(alloc, rest)?)?;
+    Ok(paths)
+}
+
+// What stands before the first colon, or all where there is none.
+fn before_colon(text: &str) -> &str
+    ensures { result.now ≡ before_colon_in text.now }
+{
+    match text.split_once(':') {
+        Some((path, _)) => path,
+        None => text,
+    }
+}
+
+// What stands behind it, where there is one.
+fn behind_colon(text: &str) -> Option<&str>
+    ensures { option_map (λ more. more.now) result ≡ behind_colon_in text.now }
+{
+    match text.split_once(':') {
+        Some((_, more)) => Some(more),
+        None => None,
+    }
 }
 
 /// Whether an option takes this text.
@@ -45,7 +82,8 @@ pub(crate) fn is_value(option: Opt, text: &str) -> bool
 
 /// A size in bytes, rounded up to 4,096. `None` exactly where the text is no size, or one above 2^44 bytes.
 pub(crate) fn read_size(text: &str) -> Option<u64>
-    ensures { result ≡ size_in text.now }
+    ensures read { result ≡ size_in text.now }
+    ensures size { IfSome result IsSize }
 {
     match rp_values::read_size(text) {
         Some(size) if size <= 1 << 44 => Some(rounded(size)),
@@ -56,7 +94,8 @@ pub(crate) fn read_size(text: &str) -> Option<u64>
 // The least multiple of 4,096 that isn't below.
 fn rounded(size: u64) -> u64
     requires { size ≤ 2 ^ 44 }
-    ensures { result ≡ rounded_up size }
+    ensures rounded { result ≡ rounded_up size }
+    ensures size { IsSize result }
 {
     (size + 4095) / 4096 * 4096
 }

@@ -1,8 +1,46 @@
-use Rattle.std.proofs.Common.{map, string_bytes, sym}
-use Rattle.rp_words.proofs.Built.{asks_to_show}
+use Rattle.std.proofs.Common.{inl, inr, map, string_bytes, sym}
+use Rattle.rp_cli.proofs.Promised.{plan_causes, plan_files}
+use Rattle.rp_cli.specs.Asked.{request_of}
+use Rattle.rp_outcome.specs.Device.{device}
+use Rattle.rp_outcome.specs.Output.{output}
+use Rattle.rp_outcome.specs.Store.{store}
+use Rattle.rp_words.proofs.Built.{asks_for}
+use Rattle.rp_words.specs.Line.{text_in}
+use Rattle.rp_words.specs.Values.{paths_of}
+use Rattle.rp_words.specs.declared.table.Opt.TheVariants.{Definitions}
 use Rattle.rp_cli.proofs.commands.run.Goals as goal
+
+-- what holds of every command, for `plan`
+pub returns-in-Plan-clause-causes : goal.returns-in-Plan-clause-causes
+returns-in-Plan-clause-causes g c =
+    plan_causes (request_of c.in-Ok.line) c.in-Ok.line.json (paths_of (text_in Definitions (map string_bytes c.args.words.now)))
+    (store g.F.Folders.told g.F.Folders.faults g.F.Folders.strays c.args.folders.now)
+    (store g.F.Folders.told g.F.Folders.faults g.F.Folders.strays c.run_plan.new.folders)
+    (device g.D.Disk.first g.D.Disk.calls g.D.Disk.faults g.D.Disk.strays c.args.disk.now)
+    (device g.D.Disk.first g.D.Disk.calls g.D.Disk.faults g.D.Disk.strays c.run_plan.new.disk)
+    (store g.S.Sources.told g.S.Sources.faults g.S.Sources.strays c.args.sources.now)
+    (store g.S.Sources.told g.S.Sources.faults g.S.Sources.strays c.run_plan.new.sources)
+    (output g.K.Sink.told g.K.Sink.faults c.args.out.now)
+    (output g.K.Sink.told g.K.Sink.faults c.run_plan.new.out)
+    c.run_plan.result c.run_plan.ensures
+
+pub returns-in-Plan-clause-files : goal.returns-in-Plan-clause-files
+returns-in-Plan-clause-files g c =
+    plan_files (request_of c.in-Ok.line) c.in-Ok.line.json (paths_of (text_in Definitions (map string_bytes c.args.words.now)))
+    (store g.F.Folders.told g.F.Folders.faults g.F.Folders.strays c.args.folders.now)
+    (store g.F.Folders.told g.F.Folders.faults g.F.Folders.strays c.run_plan.new.folders)
+    (device g.D.Disk.first g.D.Disk.calls g.D.Disk.faults g.D.Disk.strays c.args.disk.now)
+    (device g.D.Disk.first g.D.Disk.calls g.D.Disk.faults g.D.Disk.strays c.run_plan.new.disk)
+    (store g.S.Sources.told g.S.Sources.faults g.S.Sources.strays c.args.sources.now)
+    (store g.S.Sources.told g.S.Sources.faults g.S.Sources.strays c.run_plan.new.sources)
+    (output g.K.Sink.told g.K.Sink.faults c.args.out.now)
+    (output g.K.Sink.told g.K.Sink.faults c.run_plan.new.out)
+    c.run_plan.result c.run_plan.ensures
 
 -- no line asks for another command
 pub returns-in_default : goal.returns-in_default
-returns-in_default g c =
-    absurd (c.in_default.not-Show (asks_to_show (map string_bytes c.args.words.now) c.in-Ok.line (sym c.in-Ok.ensures.line)))
+returns-in_default g c = elim (asks_for (map string_bytes c.args.words.now) c.in-Ok.line (sym c.in-Ok.ensures.line)) [
+  | inl show ↦ absurd (c.in_default.not-Show show)
+  | inr (inl plan) ↦ absurd (c.in_default.not-Plan plan)
+  | inr (inr none) ↦ absurd none
+]

@@ -1,7 +1,7 @@
 use Rattle.std.proofs.Common.{sym, ◌∙◌}
-use Rattle.rp_words.specs.Hint.{entry_of}
+use Rattle.rp_words.specs.Entry.{entry_of}
 use Rattle.rp_words.proofs.Options.{own_in}
-use Rattle.rp_words.proofs.hint.entry_of.Goals as goal
+use Rattle.rp_words.proofs.entry.entry_of.Goals as goal
 
 pub returns : goal.returns
 unfolding entry_of

@@ -1,0 +1,22 @@
+-- What a line asks a command for.
+use Rattle.std.specs.Prelude.{ℕ, ◌≡◌, ◌⊎◌, List, Bool}
+use Rattle.rp_io.specs.Files.{Tree}
+use Rattle.rp_io.specs.declared.stored.Stored.{Stored}
+use Rattle.rp_outcome.specs.Device.{Device}
+use Rattle.rp_outcome.specs.Output.{Output, Refuses}
+use Rattle.rp_outcome.specs.Refusals.{memory_refusal}
+use Rattle.rp_outcome.specs.Store.{Store}
+use Rattle.rp_plan_command.specs.Plans.{Plans}
+use Rattle.rp_planned.specs.declared.request.Request.{Request}
+use Rattle.rp_words.specs.declared.line.Line.{Line}
+
+-- what a line asks of a command that plans
+abbrev pub request_of : Line → Request
+request_of line = record { seed = line.seed; arch = line.arch; empty = line.empty; size = line.size; sector = line.sector }
+
+-- what `plan` does, or there was no memory for the paths of the folders, and nothing was asked
+abbrev pub PlansAsked : Request → Bool → List (List ℕ) → Store Tree → Store Tree → Device → Device → Store (List Stored) → Store (List Stored)
+    → Output → Output → ℕ → Type 0
+PlansAsked request json dirs folders read disk later sources drained out after status =
+    Plans request json dirs folders read disk later sources drained out after status
+    ⊎ ((read ≡ folders) × (later ≡ disk) × (drained ≡ sources) × Refuses out after memory_refusal status)

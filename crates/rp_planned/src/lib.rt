@@ -1,0 +1,8 @@
+//! What is to become of an image, from what it shows, definitions and their sources.
+#![tactic(auto)]
+
+mod planned;
+mod request;
+
+pub use planned::{Planned, Unplanned, plan_image, unplanned_refusal};
+pub use request::Request;
