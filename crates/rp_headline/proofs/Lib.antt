@@ -1,0 +1,5 @@
+pub mod Given
+pub mod Kept
+pub mod Shown
+pub mod Left
+pub mod Public
