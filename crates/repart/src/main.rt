@@ -1,9 +1,9 @@
-//! `repart`: shows the partition table of a raw disk image.
+//! `repart`: shows and plans the partition table of a raw disk image.
 #![tactic(auto)]
 
 use rp_cli::run;
 use rp_disk::FileDisk;
-use rp_io::HostSink;
+use rp_io::{HostFolders, HostSink, HostSources};
 use rp_outcome::{MEMORY, WORDS, finish};
 use rp_words::{help_text, hint_of};
 use std::io::{self, ErrorKind};
@@ -54,8 +54,17 @@ fn print_help(rt: &HostRuntime) -> u8 {
 // Does what the words ask for. Each command that is built reads alone, so the image is opened for that alone.
 fn run_words(rt: &HostRuntime, words: &[String]) -> u8 {
     let mut disk = FileDisk::open_to_read(rt, image_of(rt, words));
+    let mut folders = HostFolders::new(rt);
+    let mut sources = HostSources::new(rt);
     let mut out = HostSink::new(rt);
-    run(rt.alloc(), words, &mut disk, &mut out)
+    run(
+        rt.alloc(),
+        words,
+        &mut disk,
+        &mut folders,
+        &mut sources,
+        &mut out,
+    )
 }
 
 // The path of the image: the last word, where it isn't the path of what is neither a file nor a block device. A folder

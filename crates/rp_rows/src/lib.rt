@@ -6,6 +6,10 @@ mod definitions;
 #[cfg(test)]
 mod images;
 #[cfg(test)]
+mod outside;
+#[cfg(test)]
+mod plan;
+#[cfg(test)]
 mod printed;
 #[cfg(test)]
 mod records;

@@ -1,11 +1,11 @@
 //! `show`.
 
 use crate::images::{ESP, Numbers, SWAP, esp_image, other_table};
+use crate::outside::{call, folder, source, words};
 use rp_base::List;
 use rp_cli::run;
 use rp_disk::MemDisk;
 use rp_io::MemSink;
-use std::alloc::Global;
 use std::process::Abort;
 use std::test::Fail;
 
@@ -384,22 +384,19 @@ fn check_image<R: Abort + AllocGlobal>(rt: &R, case: Case, image: Vec<u8>) -> Re
         call(rt.alloc(), case.disk)?,
     );
     let mut out = MemSink::new(rt.alloc(), call(rt.alloc(), case.sink)?);
-    let mut words = Vec::new(rt.alloc());
-    for word in case.words.split(' ') {
-        words.push(String::from_str(rt.alloc(), word)?)?;
-    }
-    let status = run(rt.alloc(), words.as_slice(), &mut disk, &mut out);
+    let words = words(rt.alloc(), case.words)?;
+    let mut folders = folder(rt.alloc(), &[], 0)?;
+    let mut sources = source(rt.alloc(), 0, 0)?;
+    let status = run(
+        rt.alloc(),
+        words.as_slice(),
+        &mut disk,
+        &mut folders,
+        &mut sources,
+        &mut out,
+    );
     assert!(rt; out.bytes() == case.printed.as_bytes());
     assert!(rt; status == case.status);
     assert!(rt; disk.calls().is_empty());
     Ok(())
-}
-
-// The list of one number of a call that fails, or of none.
-fn call(alloc: Global, number: u64) -> Result<List<u64>, Fail> {
-    let mut list = List::new(alloc);
-    if number != 0 {
-        list.push(number)?;
-    }
-    Ok(list)
 }
