@@ -43,11 +43,13 @@ tree_err (Ok x) tree taken old new err broke = absurd (let no = err in cc)
 tree_err (Err e) tree taken old new err broke = record { done = tt; failed = broke }
 
 -- the hash blocks' writes keep the length
-pub hash_length : (tree : TreePlan) (taken : List (List ℕ)) (first : Option (List ℕ)) (old new : List Made) → new ≡ old ++ dones (hash_calls tree taken)
+pub hash_length : (tree : TreePlan) (taken : List (List ℕ)) (first : Option (List ℕ)) (old new : List Made)
+    → new ≡ old ++ dones (hash_calls tree taken)
     → IfSome (history_told first new) IsLawful → SameLength first old new
 unfolding tree_writes
 hash_length tree taken first old new done lawful =
-    same_length first old new (hash_calls tree taken) done (writes-are tree.hash_at (placed (stored_tree tree.salt taken) (order tree.blocks))) lawful
+    same_length first old new (hash_calls tree taken) done
+    (writes-are tree.hash_at (placed (stored_tree tree.salt taken) (order tree.blocks))) lawful
 
 -- the superblock lies before the end
 pub block_ends : (tree : TreePlan) → IsTreePlan tree → tree.hash_at + 4096 ≤ hash_end tree

@@ -18,7 +18,8 @@ use Rattle.rp_format.proofs.Told.{IsWrite}
 abbrev pub put_at : List ℕ → List ℕ → ℕ → ℕ × List ℕ
 put_at places blocks k = (get_or places k 0, bytes_at blocks (4096 * k) 4096)
 
-pub kept-more : (k : ℕ) (places blocks : List ℕ) → kept_puts (k + 1) places blocks ≡ kept_puts k places blocks ++ put_at places blocks k ∷ []
+pub kept-more : (k : ℕ) (places blocks : List ℕ)
+    → kept_puts (k + 1) places blocks ≡ kept_puts k places blocks ++ put_at places blocks k ∷ []
 kept-more k places blocks = map-range_with_len_more (put_at places blocks) 0 k k (omega arith)
 
 pub length-kept : (k : ℕ) (places blocks : List ℕ) → length (kept_puts k places blocks) ≡ k
@@ -36,7 +37,8 @@ pub kept-put : (k place : ℕ) (places blocks block : List ℕ) → k < length p
 kept-put k place places blocks block below fits size =
     let new : List ℕ = overwritten blocks (4096 * k) block in
     let marked : List ℕ = slice_set places k place in
-    let here : bytes_at new (4096 * k) 4096 ≡ block = let P : ℕ → Type 0 = λ n. bytes_at new (4096 * k) n ≡ block in subst P size (bytes_at-overwritten (4096 * k) block blocks (omega arith)) in
+    let here : bytes_at new (4096 * k) 4096 ≡ block = let P : ℕ
+    → Type 0 = λ n. bytes_at new (4096 * k) n ≡ block in subst P size (bytes_at-overwritten (4096 * k) block blocks (omega arith)) in
     let old : kept_puts k marked new ≡ kept_puts k places blocks =
     same_range (put_at marked new) (put_at places blocks) 0 k (λ j before.
     ap₂ (λ (p : ℕ) (b : List ℕ). (p, b)) (get_or-set_other places k j place 0 (omega arith))
@@ -50,23 +52,27 @@ writes-append hash_at xs ys = map-append (λ (put : ℕ × List ℕ). Write (has
 
 pub writes-more : (hash_at k : ℕ) (places blocks : List ℕ)
     → writes_of hash_at (kept_puts (k + 1) places blocks)
-    ≡ writes_of hash_at (kept_puts k places blocks) ++ Write (hash_at + 4096 * (1 + get_or places k 0)) (bytes_at blocks (4096 * k) 4096) ∷ []
+    ≡ writes_of hash_at (kept_puts k places blocks) ++ Write (hash_at + 4096 * (1 + get_or places k 0))
+    (bytes_at blocks (4096 * k) 4096) ∷ []
 writes-more hash_at k places blocks =
     ap (writes_of hash_at) (kept-more k places blocks) ∙ writes-append hash_at (kept_puts k places blocks) (put_at places blocks k ∷ [])
 
 -- all of them, cut at one
 pub writes-split : (hash_at n k : ℕ) (places blocks : List ℕ) → k < n
     → (rest : List Call) × (writes_of hash_at (kept_puts n places blocks)
-    ≡ writes_of hash_at (kept_puts k places blocks) ++ Write (hash_at + 4096 * (1 + get_or places k 0)) (bytes_at blocks (4096 * k) 4096) ∷ rest)
+    ≡ writes_of hash_at (kept_puts k places blocks) ++ Write (hash_at + 4096 * (1 + get_or places k 0))
+    (bytes_at blocks (4096 * k) 4096) ∷ rest)
 writes-split hash_at n k places blocks below =
     let all : List (ℕ × List ℕ) = kept_puts n places blocks in
-    let front : take (k + 1) all ≡ kept_puts (k + 1) places blocks = take-map-range_with_len (put_at places blocks) 0 n (k + 1) (omega arith) in
+    let front : take (k + 1) all ≡ kept_puts (k + 1) places blocks = take-map-range_with_len (put_at places blocks) 0 n (k + 1)
+    (omega arith) in
     let parts : all ≡ kept_puts (k + 1) places blocks ++ drop (k + 1) all = rw front at (sym (take-append-drop (k + 1) all)) in
     let calls : List Call = writes_of hash_at (kept_puts k places blocks) in (
       writes_of hash_at (drop (k + 1) all),
       ap (writes_of hash_at) parts ∙ writes-append hash_at (kept_puts (k + 1) places blocks) (drop (k + 1) all)
           ∙ ap (λ (l : List Call). l ++ writes_of hash_at (drop (k + 1) all)) (writes-more hash_at k places blocks)
-          ∙ append_assoc calls (Write (hash_at + 4096 * (1 + get_or places k 0)) (bytes_at blocks (4096 * k) 4096) ∷ []) (writes_of hash_at (drop (k + 1) all)),
+          ∙ append_assoc calls (Write (hash_at + 4096 * (1 + get_or places k 0)) (bytes_at blocks (4096 * k) 4096) ∷ [])
+          (writes_of hash_at (drop (k + 1) all)),
     )
 
 pub writes-are : (hash_at : ℕ) (puts : List (ℕ × List ℕ)) → Each IsWrite (writes_of hash_at puts)

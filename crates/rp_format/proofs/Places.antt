@@ -53,9 +53,11 @@ filled-split blocks m n =
 
 filled-more : (blocks k : ℕ) → filled_by blocks (k + 1) ≡ filled_by blocks k ++ full_with (levels blocks) blocks (k + 1)
 filled-more blocks k =
-    let one : flat_map (full_with (levels blocks) blocks) (range_with_len (1 + k) 1) ≡ full_with (levels blocks) blocks (1 + k) ++ [] = refl in
+    let one : flat_map (full_with (levels blocks) blocks) (range_with_len (1 + k) 1) ≡ full_with (levels blocks) blocks (1 + k) ++ [] =
+    refl in
     let e : 1 + k ≡ k + 1 = omega arith in
-    filled-split blocks k 1 ∙ ap (λ (l : List ℕ). filled_by blocks k ++ l) (one ∙ rw e (append-nil' (full_with (levels blocks) blocks (k + 1)))) where
+    filled-split blocks k 1 ∙ ap (λ (l : List ℕ). filled_by blocks k ++ l)
+    (one ∙ rw e (append-nil' (full_with (levels blocks) blocks (k + 1)))) where
       append-nil' : (l : List ℕ) → l ++ [] ≡ l
       append-nil' [] = refl
       append-nil' (x ∷ xs) = ap (λ (r : List ℕ). x ∷ r) (append-nil' xs)
@@ -69,7 +71,8 @@ pub so_far-more : (tree : TreePlan) (taken : List (List ℕ)) (k : ℕ)
     ≡ writes_of tree.hash_at (so_far_puts tree taken k) ++ writes_of tree.hash_at (full_puts tree taken (k + 1))
 so_far-more tree taken k =
     ap (λ (places : List ℕ). writes_of tree.hash_at (placed (stored_tree tree.salt taken) places)) (filled-more tree.blocks k)
-    ∙ ap (writes_of tree.hash_at) (placed-append (stored_tree tree.salt taken) (filled_by tree.blocks k) (full_with (levels tree.blocks) tree.blocks (k + 1)))
+    ∙ ap (writes_of tree.hash_at)
+    (placed-append (stored_tree tree.salt taken) (filled_by tree.blocks k) (full_with (levels tree.blocks) tree.blocks (k + 1)))
     ∙ writes-append tree.hash_at (so_far_puts tree taken k) (full_puts tree taken (k + 1))
 
 -- all writes: those of all data blocks, and what is left over
@@ -77,7 +80,8 @@ pub all-split : (tree : TreePlan) (taken : List (List ℕ))
     → hash_calls tree taken ≡ writes_of tree.hash_at (so_far_puts tree taken tree.blocks) ++ writes_of tree.hash_at (left_puts tree taken)
 unfolding tree_writes order_over
 all-split tree taken =
-    ap (writes_of tree.hash_at) (placed-append (stored_tree tree.salt taken) (filled_by tree.blocks tree.blocks) (left_over (levels tree.blocks) tree.blocks))
+    ap (writes_of tree.hash_at)
+    (placed-append (stored_tree tree.salt taken) (filled_by tree.blocks tree.blocks) (left_over (levels tree.blocks) tree.blocks))
     ∙ writes-append tree.hash_at (so_far_puts tree taken tree.blocks) (left_puts tree taken)
 
 -- the same, cut at a data block
@@ -90,15 +94,19 @@ all-split-at tree taken k below =
     let stored : List (List ℕ) = stored_tree tree.salt taken in
     let behind : List ℕ = flat_map (full_with (levels blocks) blocks) (range_with_len (1 + (k + 1)) (blocks - (k + 1))) in
     let size : k + 1 + (blocks - (k + 1)) ≡ blocks = omega arith in
-    let filled : filled_by blocks blocks ≡ filled_by blocks (k + 1) ++ behind = rw size at (filled-split blocks (k + 1) (blocks - (k + 1))) in
-    let front : W (so_far_puts tree taken blocks) ≡ (W (so_far_puts tree taken k) ++ W (full_puts tree taken (k + 1))) ++ W (placed stored behind) =
+    let filled : filled_by blocks blocks ≡ filled_by blocks (k + 1) ++ behind =
+    rw size at (filled-split blocks (k + 1) (blocks - (k + 1))) in
+    let front : W (so_far_puts tree taken blocks) ≡ (W (so_far_puts tree taken k) ++ W (full_puts tree taken (k + 1))) ++ W
+    (placed stored behind) =
     ap (λ (places : List ℕ). W (placed stored places)) filled ∙ ap W (placed-append stored (filled_by blocks (k + 1)) behind)
     ∙ writes-append tree.hash_at (so_far_puts tree taken (k + 1)) (placed stored behind)
     ∙ ap (λ (l : List Call). l ++ W (placed stored behind)) (so_far-more tree taken k) in (
       W (placed stored behind) ++ W (left_puts tree taken),
       all-split tree taken ∙ ap (λ (l : List Call). l ++ W (left_puts tree taken)) front
-          ∙ append_assoc (W (so_far_puts tree taken k) ++ W (full_puts tree taken (k + 1))) (W (placed stored behind)) (W (left_puts tree taken))
-          ∙ append_assoc (W (so_far_puts tree taken k)) (W (full_puts tree taken (k + 1))) (W (placed stored behind) ++ W (left_puts tree taken)),
+          ∙ append_assoc (W (so_far_puts tree taken k) ++ W (full_puts tree taken (k + 1))) (W (placed stored behind))
+          (W (left_puts tree taken))
+          ∙ append_assoc (W (so_far_puts tree taken k)) (W (full_puts tree taken (k + 1)))
+          (W (placed stored behind) ++ W (left_puts tree taken)),
     )
 
 -- the places are those of the tree
@@ -110,7 +118,8 @@ filled-inside n digests a (suc m) some few =
     (full_with-inside n digests a some (omega arith)) (filled-inside n digests (a + 1) m (omega arith) (omega arith))
 
 -- a tree has these blocks
-pub length-tree : (salt : List ℕ) (taken : List (List ℕ)) → length (stored_tree salt taken) ≡ blocks_over (levels (length taken)) (length taken)
+pub length-tree : (salt : List ℕ) (taken : List (List ℕ))
+    → length (stored_tree salt taken) ≡ blocks_over (levels (length taken)) (length taken)
 unfolding stored_tree
 length-tree salt taken =
     let n : length (map (digest salt) taken) ≡ length taken = length-map-all (digest salt) taken in

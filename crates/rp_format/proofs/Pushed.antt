@@ -62,7 +62,8 @@ added_are before puts now none added =
 pub not_refused : (waiting : Waiting) (before puts : List (ℕ × List ℕ)) (old : ℕ) → old ≡ 0 → before ≡ []
     → AddedPart (Some before) puts (Some (puts_of waiting)) → length puts ≤ 5 → Rose old (faults_of waiting) → ⊥
 not_refused waiting before puts old none empty part few rose =
-    let same : puts_of waiting ≡ before ++ take part.0 puts = (let is : Some (puts_of waiting) ≡ Some (before ++ take part.0 puts) = part.1 in cc) in
+    let same : puts_of waiting ≡ before ++ take part.0 puts =
+    (let is : Some (puts_of waiting) ≡ Some (before ++ take part.0 puts) = part.1 in cc) in
     let is : puts_of waiting ≡ take part.0 puts = same ∙ ap (λ (l : List (ℕ × List ℕ)). l ++ take part.0 puts) empty in
     let long : length (puts_of waiting) ≡ length (take part.0 puts) = ap length is in
     let all : length (puts_of waiting) ≡ waiting.count = length-kept waiting.count waiting.places waiting.blocks in
@@ -90,7 +91,8 @@ pub full_ends : (tree : TreePlan) (plan : IsTreePlan tree) (all : List (List ℕ
 full_ends tree plan all k end below fits =
     let some : 1 ≤ tree.blocks = plan.some in
     ends_placed tree.hash_at end _ (stored_tree tree.salt all) (full_with (levels tree.blocks) tree.blocks (k + 1))
-    (full_with-inside (levels tree.blocks) tree.blocks (k + 1) (omega arith) (omega arith)) (omega (arith, hash_blocks-over tree.blocks some))
+    (full_with-inside (levels tree.blocks) tree.blocks (k + 1) (omega arith) (omega arith))
+    (omega (arith, hash_blocks-over tree.blocks some))
 
 pub left_ends : (tree : TreePlan) (plan : IsTreePlan tree) (all : List (List ℕ)) (end : ℕ) → hash_end tree ≤ end
     → EndBy tree.hash_at end (left_puts tree all)

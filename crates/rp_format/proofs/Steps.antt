@@ -50,7 +50,8 @@ pub record SoFar (tree : TreePlan) (first : Option (List ℕ)) (old : List Made)
       → now ≡ old ++ dones (writes_of tree.hash_at (so_far_puts tree (taken ++ rest) k))
 
 none_shown : (tree : TreePlan) (first : Option (List ℕ)) (old : List Made)
-    → IfSome first (λ bytes. tree.data_at + 4096 * 0 ≤ length (shown (history_of bytes old)) → [] ≡ cut 0 (row_bytes tree (shown (history_of bytes old))))
+    → IfSome first (λ bytes. tree.data_at + 4096 * 0 ≤ length (shown (history_of bytes old))
+    → [] ≡ cut 0 (row_bytes tree (shown (history_of bytes old))))
 none_shown tree None old = tt
 none_shown tree (Some bytes) old = λ fits. refl
 
@@ -76,7 +77,8 @@ broke_first old plan new broke = (broke.0, broke.1, broke.3)
 -- what was taken so far, with blocks that come still, is a whole row
 fill_up : (tree : TreePlan) (k : ℕ) (taken : List (List ℕ)) → length taken ≡ k → k ≤ tree.blocks
     → length (taken ++ replicate (tree.blocks - k) []) ≡ tree.blocks
-fill_up tree k taken count few = omega (arith, length-append taken (replicate (tree.blocks - k) []), length-replicate {A = List ℕ} (tree.blocks - k) [])
+fill_up tree k taken count few =
+    omega (arith, length-append taken (replicate (tree.blocks - k) []), length-replicate {A = List ℕ} (tree.blocks - k) [])
 
 -- the writes so far leave alone what lies outside of the tree
 writes_apart : (tree : TreePlan) (plan : IsTreePlan tree) (all : List (List ℕ)) (k at size : ℕ) → length all ≡ tree.blocks → k ≤ tree.blocks
@@ -103,9 +105,11 @@ pub length_so_far : (tree : TreePlan) (first : Option (List ℕ)) (old : List Ma
 length_so_far tree first old builder k now taken so few lawful =
     let rest : List (List ℕ) = replicate (tree.blocks - k) [] in
     let puts = so_far_puts tree (taken ++ rest) k in
-    same_length first old now (writes_of tree.hash_at puts) (so.calls rest (fill_up tree k taken so.count few)) (writes-are tree.hash_at puts) lawful
+    same_length first old now (writes_of tree.hash_at puts) (so.calls rest (fill_up tree k taken so.count few))
+    (writes-are tree.hash_at puts) lawful
 
-range_so_far : (tree : TreePlan) (plan : IsTreePlan tree) (first : Option (List ℕ)) (old : List Made) (builder : Builder) (k : ℕ) (now : List Made)
+range_so_far : (tree : TreePlan) (plan : IsTreePlan tree) (first : Option (List ℕ)) (old : List Made) (builder : Builder) (k : ℕ)
+    (now : List Made)
     (taken : List (List ℕ)) → SoFar tree first old builder k now taken → k < tree.blocks → IfSome (history_told first now) IsLawful
     → SameRange (tree.data_at + 4096 * k) 4096 first old now
 range_so_far tree plan first old builder k now taken so below lawful =
@@ -119,7 +123,8 @@ range_so_far tree plan first old builder k now taken so below lawful =
 bytes_within : (image : List ℕ) (at m a n : ℕ) → a + n ≤ m → bytes_at (bytes_at image at m) a n ≡ bytes_at image (at + a) n
 bytes_within image at m a n inside =
     let size : a + (m - a) ≡ m = omega arith in
-    let cut-front : drop a (take m (drop at image)) ≡ take (m - a) (drop a (drop at image)) = rw size at (drop-take a (m - a) (drop at image)) in
+    let cut-front : drop a (take m (drop at image)) ≡ take (m - a) (drop a (drop at image)) =
+    rw size at (drop-take a (m - a) (drop at image)) in
     bytes_at-take (bytes_at image at m) a n
     ∙ ap (λ (l : List ℕ). take n (drop a l)) (bytes_at-take image at m)
     ∙ ap (take n) cut-front
@@ -131,17 +136,21 @@ bytes_within image at m a n inside =
 next_shown : (tree : TreePlan) (bytes : List ℕ) (old now : List Made) (k : ℕ) (block : List ℕ) → k < tree.blocks
     → length (shown (history_of bytes now)) ≡ length (shown (history_of bytes old))
     → (tree.data_at + 4096 * k + 4096 ≤ length (shown (history_of bytes old))
-    → bytes_at (shown (history_of bytes now)) (tree.data_at + 4096 * k) 4096 ≡ bytes_at (shown (history_of bytes old)) (tree.data_at + 4096 * k) 4096)
-    → (tree.data_at + 4096 * (k + 1) ≤ length (shown (history_of bytes now)) → block ≡ bytes_at (shown (history_of bytes now)) (tree.data_at + 4096 * k) 4096)
+    → bytes_at (shown (history_of bytes now)) (tree.data_at + 4096 * k) 4096 ≡ bytes_at (shown (history_of bytes old))
+    (tree.data_at + 4096 * k) 4096)
+    → (tree.data_at + 4096 * (k + 1) ≤ length (shown (history_of bytes now))
+    → block ≡ bytes_at (shown (history_of bytes now)) (tree.data_at + 4096 * k) 4096)
     → tree.data_at + 4096 * (k + 1) ≤ length (shown (history_of bytes old))
     → block ≡ bytes_at (row_bytes tree (shown (history_of bytes old))) (4096 * k) 4096
 next_shown tree bytes old now k block below same range read fits =
     read (omega arith) ∙ range (omega arith)
     ∙ sym (bytes_within (shown (history_of bytes old)) tree.data_at (4096 * tree.blocks) (4096 * k) 4096 (omega arith))
 
-more_shown : (tree : TreePlan) (first : Option (List ℕ)) (old now : List Made) (k : ℕ) (taken : List (List ℕ)) (block : List ℕ) → k < tree.blocks
+more_shown : (tree : TreePlan) (first : Option (List ℕ)) (old now : List Made) (k : ℕ) (taken : List (List ℕ)) (block : List ℕ)
+    → k < tree.blocks
     → SameLength first old now → SameRange (tree.data_at + 4096 * k) 4096 first old now → IsBlockAt tree k first now block
-    → IfSome first (λ bytes. tree.data_at + 4096 * k ≤ length (shown (history_of bytes old)) → taken ≡ cut k (row_bytes tree (shown (history_of bytes old))))
+    → IfSome first (λ bytes. tree.data_at + 4096 * k ≤ length (shown (history_of bytes old))
+    → taken ≡ cut k (row_bytes tree (shown (history_of bytes old))))
     → IfSome first (λ bytes. tree.data_at + 4096 * (k + 1) ≤ length (shown (history_of bytes old))
     → taken ++ block ∷ [] ≡ cut (k + 1) (row_bytes tree (shown (history_of bytes old))))
 unfolding SameLength SameRange
@@ -150,12 +159,15 @@ more_shown tree (Some bytes) old now k taken block below same range is so = λ f
     let row : List ℕ = row_bytes tree (shown (history_of bytes old)) in
     let before : taken ≡ cut k row = so (omega arith) in
     let here : block ≡ bytes_at row (4096 * k) 4096 = next_shown tree bytes old now k block below same range is.shown fits in
-    ap₂ (λ (l : List (List ℕ)) (b : List ℕ). l ++ b ∷ []) before here ∙ sym (map-range_with_len_more (λ j. bytes_at row (4096 * j) 4096) 0 k k (omega arith))
+    ap₂ (λ (l : List (List ℕ)) (b : List ℕ). l ++ b ∷ []) before here
+    ∙ sym (map-range_with_len_more (λ j. bytes_at row (4096 * j) 4096) 0 k k (omega arith))
 
 -- one data block more
-pub so_far_more : {T E : Type 0} (x : T) (tree : TreePlan) (plan : IsTreePlan tree) (first : Option (List ℕ)) (old : List Made) (builder after : Builder)
+pub so_far_more : {T E : Type 0} (x : T) (tree : TreePlan) (plan : IsTreePlan tree) (first : Option (List ℕ)) (old : List Made)
+    (builder after : Builder)
     (k : ℕ) (mid new : List Made) (taken : List (List ℕ)) (block : List ℕ) → SoFar tree first old builder k mid taken → k < tree.blocks
-    → IfSome (history_told first mid) IsLawful → IsBlockAt tree k first mid block → TakesBlock {T = T} {E = E} tree k builder after mid new block (Ok x)
+    → IfSome (history_told first mid) IsLawful → IsBlockAt tree k first mid block
+    → TakesBlock {T = T} {E = E} tree k builder after mid new block (Ok x)
     → SoFar tree first old after (k + 1) new (taken ++ block ∷ [])
 so_far_more x tree plan first old builder after k mid new taken block so below lawful is takes = record {
   has = takes.taken taken so.has;
@@ -167,7 +179,8 @@ so_far_more x tree plan first old builder after k mid new taken block so below l
       let e : (taken ++ block ∷ []) ++ rest ≡ taken ++ block ∷ rest = append_assoc taken (block ∷ []) rest in
       let whole : length (taken ++ block ∷ rest) ≡ tree.blocks = sym (ap length e) ∙ all in
       let whole-row : List (List ℕ) = taken ++ block ∷ rest in
-      let both = more old mid new (writes_of tree.hash_at (so_far_puts tree whole-row k)) (writes_of tree.hash_at (full_puts tree whole-row (k + 1)))
+      let both = more old mid new (writes_of tree.hash_at (so_far_puts tree whole-row k))
+      (writes_of tree.hash_at (full_puts tree whole-row (k + 1)))
       (so.calls (block ∷ rest) whole) (takes.done taken rest so.has whole) in
       rw e (both ∙ ap (λ (l : List Call). old ++ dones l) (sym (so_far-more tree whole-row k)));
 }
@@ -179,16 +192,22 @@ resized_same bytes n long =
     rw (none, take_all n bytes (omega arith)) (append-nil bytes)
 
 -- a data block that the disk shows, or zeros
-pub some_block : (tree : TreePlan) (k : ℕ) (first : Option (List ℕ)) (made : List Made) → (block : List ℕ) × IsBlockAt tree k first made block
+pub some_block : (tree : TreePlan) (k : ℕ) (first : Option (List ℕ)) (made : List Made)
+    → (block : List ℕ) × IsBlockAt tree k first made block
 some_block tree k None made = (replicate 4096 0, record { size = length-replicate {A = ℕ} 4096 0; shown = tt })
 some_block tree k (Some bytes) made =
     let piece : List ℕ = bytes_at (shown (history_of bytes made)) (tree.data_at + 4096 * k) 4096 in (
       resized piece 4096,
-      record { size = length-resized piece 4096; shown = λ fits. resized_same piece 4096 (length-bytes_at (shown (history_of bytes made)) (tree.data_at + 4096 * k) 4096 (omega arith)) },
+      record {
+        size = length-resized piece 4096;
+        shown =
+            λ fits. resized_same piece 4096 (length-bytes_at (shown (history_of bytes made)) (tree.data_at + 4096 * k) 4096 (omega arith));
+      },
     )
 
 -- one that was read
-pub block_read : (tree : TreePlan) (k : ℕ) (first : Option (List ℕ)) (made : List Made) (block : List ℕ) (n : ℕ) → length block ≡ 4096 → n ≡ 4096
+pub block_read : (tree : TreePlan) (k : ℕ) (first : Option (List ℕ)) (made : List Made) (block : List ℕ) (n : ℕ) → length block ≡ 4096
+    → n ≡ 4096
     → IfSome (history_told first made) (λ h. block ≡ bytes_at (shown h) (tree.data_at + 4096 * k) n) → IsBlockAt tree k first made block
 block_read tree k None made block n size is read = record { size = size; shown = tt }
 block_read tree k (Some bytes) made block n size is read =
@@ -230,7 +249,8 @@ RowOf tree first old front = (rest : List (List ℕ)) × AreBlocks tree.blocks (
 
 row_of : (tree : TreePlan) (first : Option (List ℕ)) (old : List Made) (k : ℕ) (front : List (List ℕ)) → k < tree.blocks
     → length front ≡ k + 1 → All IsBlock front
-    → IfSome first (λ bytes. tree.data_at + 4096 * (k + 1) ≤ length (shown (history_of bytes old)) → front ≡ cut (k + 1) (row_bytes tree (shown (history_of bytes old))))
+    → IfSome first (λ bytes. tree.data_at + 4096 * (k + 1) ≤ length (shown (history_of bytes old))
+    → front ≡ cut (k + 1) (row_bytes tree (shown (history_of bytes old))))
     → RowOf tree first old front
 row_of tree None old k front below count whole is = (
   rest_blocks tree k [],
@@ -254,9 +274,11 @@ row_of tree (Some bytes) old k front below count whole is =
     )
 
 -- it broke off at a data block: the data blocks with those that come still
-pub so_far_broke : {T E : Type 0} (e : E) (tree : TreePlan) (plan : IsTreePlan tree) (first : Option (List ℕ)) (old : List Made) (builder after : Builder)
+pub so_far_broke : {T E : Type 0} (e : E) (tree : TreePlan) (plan : IsTreePlan tree) (first : Option (List ℕ)) (old : List Made)
+    (builder after : Builder)
     (k : ℕ) (mid new : List Made) (taken : List (List ℕ)) (block : List ℕ) → SoFar tree first old builder k mid taken → k < tree.blocks
-    → IfSome (history_told first mid) IsLawful → IsBlockAt tree k first mid block → TakesBlock {T = T} {E = E} tree k builder after mid new block (Err e)
+    → IfSome (history_told first mid) IsLawful → IsBlockAt tree k first mid block
+    → TakesBlock {T = T} {E = E} tree k builder after mid new block (Err e)
     → (all : List (List ℕ)) × AreBlocks tree.blocks all × AreShown tree first old all × MadeFirst old (hash_calls tree all) new
 so_far_broke e tree plan first old builder after k mid new taken block so below lawful is takes =
     let front : List (List ℕ) = taken ++ block ∷ [] in
@@ -305,7 +327,8 @@ pub so_far_left : (tree : TreePlan) (first : Option (List ℕ)) (old : List Made
 so_far_left tree first old builder mid new taken so made =
     made_within old mid new (writes_of tree.hash_at (so_far_puts tree taken tree.blocks)) (writes_of tree.hash_at (left_puts tree taken)) []
     (hash_calls tree taken) (so_far_calls tree first old builder mid taken so) made
-    (all-split tree taken ∙ ap (λ (l : List Call). writes_of tree.hash_at (so_far_puts tree taken tree.blocks) ++ l) (sym (append-nil (writes_of tree.hash_at (left_puts tree taken)))))
+    (all-split tree taken ∙ ap (λ (l : List Call). writes_of tree.hash_at (so_far_puts tree taken tree.blocks) ++ l)
+    (sym (append-nil (writes_of tree.hash_at (left_puts tree taken)))))
 
 -- where a disk tells, it has the data blocks that were taken
 unfoldable pub Reaches : TreePlan → ℕ → Option (List ℕ) → List Made → Type 0
@@ -336,7 +359,8 @@ writes_err (Ok x) tree first old new err made = absurd (let no = err in cc)
 writes_err (Err e) tree first old new err made = (made.0, made.1, made.2, record { done = tt; root = tt; failed = made.3 })
 
 -- and the end, when all were taken
-pub writes_hashes : (result : Result (List ℕ) Failed) (tree : TreePlan) (first : Option (List ℕ)) (old : List Made) (builder : Builder) (mid new : List Made)
+pub writes_hashes : (result : Result (List ℕ) Failed) (tree : TreePlan) (first : Option (List ℕ)) (old : List Made) (builder : Builder)
+    (mid new : List Made)
     (taken : List (List ℕ)) → SoFar tree first old builder tree.blocks mid taken
     → OnOk result (new ≡ mid ++ dones (writes_of tree.hash_at (left_puts tree taken)))
     → IfOk result (λ root. root ≡ root_hash tree.salt taken)

@@ -50,7 +50,8 @@ inside_told bytes old new calls so writes lawful =
 shown_told : (bytes : List ℕ) (old new : List Made) (calls : List Call) → new ≡ old ++ dones calls
     → shown (history_of bytes new) ≡ all_done (shown (history_of bytes old)) calls
 shown_told bytes old new calls so =
-    ap (λ (l : List Made). shown (history_of bytes l)) so ∙ ap shown (history_of-dones bytes old calls) ∙ shown-all_did (history_of bytes old) calls
+    ap (λ (l : List Made). shown (history_of bytes l)) so ∙ ap shown (history_of-dones bytes old calls)
+    ∙ shown-all_did (history_of bytes old) calls
 
 pub same_length : (first : Option (List ℕ)) (old new : List Made) (calls : List Call) → new ≡ old ++ dones calls → Each IsWrite calls
     → IfSome (history_told first new) IsLawful → SameLength first old new
@@ -58,9 +59,11 @@ unfolding SameLength
 same_length None old new calls so writes lawful = tt
 same_length (Some bytes) old new calls so writes lawful =
     ap length (shown_told bytes old new calls so)
-    ∙ length-all_done calls (shown (history_of bytes old)) (length (shown (history_of bytes old))) refl (inside_told bytes old new calls so writes lawful)
+    ∙ length-all_done calls (shown (history_of bytes old)) (length (shown (history_of bytes old))) refl
+    (inside_told bytes old new calls so writes lawful)
 
-pub same_range : (at size : ℕ) (first : Option (List ℕ)) (old new : List Made) (calls : List Call) → new ≡ old ++ dones calls → Each IsWrite calls
+pub same_range : (at size : ℕ) (first : Option (List ℕ)) (old new : List Made) (calls : List Call) → new ≡ old ++ dones calls
+    → Each IsWrite calls
     → Each (Apart at size) calls → IfSome (history_told first new) IsLawful → SameRange at size first old new
 unfolding SameRange
 same_range at size None old new calls so writes apart lawful = tt

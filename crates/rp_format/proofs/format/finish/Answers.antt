@@ -26,8 +26,14 @@ returns-in_err-root-clause-cause g c =
     let over : levels (length taken) ≡ c.args.builder.count = ap levels (count ∙ sym c.requires.builder.blocks) ∙ sym sound.count in
     let few : levels (length taken) ≤ 5 = omega (arith, over, low) in
     absurd (not_refused c.finish.new.out _ _ _ c.requires.waiting.faults c.requires.waiting.puts
-    (c.in_err-root.ensures.cut c.args.tree.now.salt taken (record { salted = has.salted; pushed = has.pushed; room = has.room; root = has.root }))
-    (omega (arith, length-placed (stored_tree c.args.tree.now.salt taken) (left_over (levels (length taken)) (length taken)), length-left_over (levels (length taken)) (length taken)))
+    (c.in_err-root.ensures.cut c.args.tree.now.salt taken
+    (record { salted = has.salted; pushed = has.pushed; room = has.room; root = has.root }))
+    (omega (
+      arith,
+      length-placed (stored_tree c.args.tree.now.salt taken)
+          (left_over (levels (length taken)) (length taken)),
+      length-left_over (levels (length taken)) (length taken),
+    ))
     c.in_err-root.ensures.cause.failed)
 
 pub write_to-requires : goal.write_to-requires
@@ -37,7 +43,8 @@ write_to-requires g c =
     let count : length taken ≡ c.args.tree.now.blocks = sym has.pushed ∙ c.requires.builder.pushed in
     let are : puts_of c.finish.new.out ≡ left_puts c.args.tree.now taken =
     finished_puts c.args.tree.now taken _ _ count c.requires.waiting.puts
-    (c.in_ok-root.ensures.puts c.args.tree.now.salt taken (record { salted = has.salted; pushed = has.pushed; room = has.room; root = has.root })) in
+    (c.in_ok-root.ensures.puts c.args.tree.now.salt taken
+    (record { salted = has.salted; pushed = has.pushed; room = has.room; root = has.root })) in
     let ends : EndBy c.args.tree.now.hash_at 18446744073709551615 (left_puts c.args.tree.now taken) =
     left_ends c.args.tree.now c.requires.plan taken 18446744073709551615 (let fits = c.requires.plan.hash_fits in omega arith) in
     record { ends = subst (EndBy c.args.tree.now.hash_at 18446744073709551615) (sym are) ends }
@@ -47,17 +54,20 @@ returns-in_err-write_to-clause-failed g c = λ taken has.
     let count : length taken ≡ c.args.tree.now.blocks = sym has.pushed ∙ c.requires.builder.pushed in
     let are : puts_of c.finish.new.out ≡ left_puts c.args.tree.now taken =
     finished_puts c.args.tree.now taken _ _ count c.requires.waiting.puts
-    (c.in_ok-root.ensures.puts c.args.tree.now.salt taken (record { salted = has.salted; pushed = has.pushed; room = has.room; root = has.root })) in
+    (c.in_ok-root.ensures.puts c.args.tree.now.salt taken
+    (record { salted = has.salted; pushed = has.pushed; room = has.room; root = has.root })) in
     let made = broke_first _ _ _ c.in_err-write_to.ensures.ran.err in
     on_err c.from_residual-in_err-write_to.result
-    (subst (λ (puts : List (ℕ × List ℕ)). MadeFirst (g.D.Disk.calls c.args.disk.now) (writes_of c.args.tree.now.hash_at puts) (g.D.Disk.calls c.write_to.new.disk)) are made)
+    (subst (λ (puts : List (ℕ × List ℕ)). MadeFirst (g.D.Disk.calls c.args.disk.now) (writes_of c.args.tree.now.hash_at puts)
+    (g.D.Disk.calls c.write_to.new.disk)) are made)
 
 pub returns-clause-done : goal.returns-clause-done
 returns-clause-done g c = λ taken has.
     let count : length taken ≡ c.args.tree.now.blocks = sym has.pushed ∙ c.requires.builder.pushed in
     let are : puts_of c.finish.new.out ≡ left_puts c.args.tree.now taken =
     finished_puts c.args.tree.now taken _ _ count c.requires.waiting.puts
-    (c.in_ok-root.ensures.puts c.args.tree.now.salt taken (record { salted = has.salted; pushed = has.pushed; room = has.room; root = has.root })) in
+    (c.in_ok-root.ensures.puts c.args.tree.now.salt taken
+    (record { salted = has.salted; pushed = has.pushed; room = has.room; root = has.root })) in
     c.in_ok-write_to.ensures.ran.ok
     ∙ ap (λ (puts : List (ℕ × List ℕ)). g.D.Disk.calls c.args.disk.now ++ dones (writes_of c.args.tree.now.hash_at puts)) are
 
@@ -68,7 +78,8 @@ returns-in_err-write_to-clause-strays g c =
     let count : length taken ≡ c.args.tree.now.blocks = sym has.pushed ∙ c.requires.builder.pushed in
     let are : puts_of c.finish.new.out ≡ left_puts c.args.tree.now taken =
     finished_puts c.args.tree.now taken _ _ count c.requires.waiting.puts
-    (c.in_ok-root.ensures.puts c.args.tree.now.salt taken (record { salted = has.salted; pushed = has.pushed; room = has.room; root = has.root })) in
+    (c.in_ok-root.ensures.puts c.args.tree.now.salt taken
+    (record { salted = has.salted; pushed = has.pushed; room = has.room; root = has.root })) in
     stays_says (LieIn c.args.tree.now) _ _ _ _
     (stays_weaker (λ n. EndBy c.args.tree.now.hash_at n (puts_of c.finish.new.out)) (LieIn c.args.tree.now) _ _ _ _
     (λ n lies. subst (EndBy c.args.tree.now.hash_at n) (sym are) (left_ends c.args.tree.now c.requires.plan taken n lies.1))
@@ -81,7 +92,8 @@ returns-clause-strays g c =
     let count : length taken ≡ c.args.tree.now.blocks = sym has.pushed ∙ c.requires.builder.pushed in
     let are : puts_of c.finish.new.out ≡ left_puts c.args.tree.now taken =
     finished_puts c.args.tree.now taken _ _ count c.requires.waiting.puts
-    (c.in_ok-root.ensures.puts c.args.tree.now.salt taken (record { salted = has.salted; pushed = has.pushed; room = has.room; root = has.root })) in
+    (c.in_ok-root.ensures.puts c.args.tree.now.salt taken
+    (record { salted = has.salted; pushed = has.pushed; room = has.room; root = has.root })) in
     stays_says (LieIn c.args.tree.now) _ _ _ _
     (stays_weaker (λ n. EndBy c.args.tree.now.hash_at n (puts_of c.finish.new.out)) (LieIn c.args.tree.now) _ _ _ _
     (λ n lies. subst (EndBy c.args.tree.now.hash_at n) (sym are) (left_ends c.args.tree.now c.requires.plan taken n lies.1))

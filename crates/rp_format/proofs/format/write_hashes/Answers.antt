@@ -36,7 +36,8 @@ loop-k-preserved g c =
     let first = c.loop-k.invariant.first in
     let so = c.loop-k.invariant.so_far in
     let below = c.loop-k-test.true in
-    let lawful : IfSome (history_told (g.D.Disk.first c.args.disk.now) (g.D.Disk.calls c.loop-k.disk)) IsLawful = rw first at (g.met.D.Disk.lawful c.loop-k.disk) in
+    let lawful : IfSome (history_told (g.D.Disk.first c.args.disk.now) (g.D.Disk.calls c.loop-k.disk)) IsLawful =
+    rw first at (g.met.D.Disk.lawful c.loop-k.disk) in
     let same : SameLength (g.D.Disk.first c.args.disk.now) (g.D.Disk.calls c.args.disk.now) (g.D.Disk.calls c.loop-k.disk) =
     length_so_far tree _ _ c.loop-k.builder c.loop-k.k _ so.0 so.1 (omega arith) lawful in
     let took = c.in_ok-take_block.ensures.takes in
@@ -47,9 +48,14 @@ loop-k-preserved g c =
       waiting = c.in_ok-take_block.ensures.waiting;
       first = c.take_block.ensures.first ∙ first;
       faults = c.in_ok-take_block.ensures.cause.kept ∙ c.loop-k.invariant.faults;
-      strays = stays_more (LieIn tree) _ _ _ _ _ _ same c.loop-k.invariant.strays (stays_of (LieIn tree) _ _ _ _ (rw first at c.take_block.ensures.strays));
+      strays = stays_more (LieIn tree) _ _ _ _ _ _ same c.loop-k.invariant.strays
+          (stays_of (LieIn tree) _ _ _ _ (rw first at c.take_block.ensures.strays));
       reaches = reaches_more tree c.loop-k.k _ _ _ same (rw first at c.in_ok-take_block.ensures.range);
-      so_far = (so.0 ++ block ∷ [], so_far_more _ tree c.requires.plan _ _ c.loop-k.builder c.take_block.new.builder c.loop-k.k _ _ so.0 block so.1 below lawful is took.2);
+      so_far = (
+        so.0 ++ block ∷ [],
+        so_far_more _ tree c.requires.plan _ _ c.loop-k.builder c.take_block.new.builder c.loop-k.k _
+            _ so.0 block so.1 below lawful is took.2,
+      );
     }
 
 pub returns-in_err-take_block-clause-written : goal.returns-in_err-take_block-clause-written
@@ -58,12 +64,14 @@ returns-in_err-take_block-clause-written g c =
     let first = c.loop-k.invariant.first in
     let so = c.loop-k.invariant.so_far in
     let below = c.loop-k-test.true in
-    let lawful : IfSome (history_told (g.D.Disk.first c.args.disk.now) (g.D.Disk.calls c.loop-k.disk)) IsLawful = rw first at (g.met.D.Disk.lawful c.loop-k.disk) in
+    let lawful : IfSome (history_told (g.D.Disk.first c.args.disk.now) (g.D.Disk.calls c.loop-k.disk)) IsLawful =
+    rw first at (g.met.D.Disk.lawful c.loop-k.disk) in
     let took = c.in_err-take_block.ensures.takes in
     let block : List ℕ = took.0 in
     let is : IsBlockAt tree c.loop-k.k (g.D.Disk.first c.args.disk.now) (g.D.Disk.calls c.loop-k.disk) block = rw first at took.1 in
     writes_err c.from_residual.result tree _ _ _ c.from_residual.ensures.0
-    (so_far_broke _ tree c.requires.plan _ _ c.loop-k.builder c.take_block.new.builder c.loop-k.k _ _ so.0 block so.1 below lawful is took.2)
+    (so_far_broke _ tree c.requires.plan _ _ c.loop-k.builder c.take_block.new.builder c.loop-k.k _
+    _ so.0 block so.1 below lawful is took.2)
 
 pub returns-in_err-take_block-clause-strays : goal.returns-in_err-take_block-clause-strays
 returns-in_err-take_block-clause-strays g c =
@@ -71,11 +79,13 @@ returns-in_err-take_block-clause-strays g c =
     let first = c.loop-k.invariant.first in
     let so = c.loop-k.invariant.so_far in
     let below = c.loop-k-test.true in
-    let lawful : IfSome (history_told (g.D.Disk.first c.args.disk.now) (g.D.Disk.calls c.loop-k.disk)) IsLawful = rw first at (g.met.D.Disk.lawful c.loop-k.disk) in
+    let lawful : IfSome (history_told (g.D.Disk.first c.args.disk.now) (g.D.Disk.calls c.loop-k.disk)) IsLawful =
+    rw first at (g.met.D.Disk.lawful c.loop-k.disk) in
     let same : SameLength (g.D.Disk.first c.args.disk.now) (g.D.Disk.calls c.args.disk.now) (g.D.Disk.calls c.loop-k.disk) =
     length_so_far tree _ _ c.loop-k.builder c.loop-k.k _ so.0 so.1 (omega arith) lawful in
     stays_says (LieIn tree) _ _ _ _
-    (stays_more (LieIn tree) _ _ _ _ _ _ same c.loop-k.invariant.strays (stays_of (LieIn tree) _ _ _ _ (rw first at c.take_block.ensures.strays)))
+    (stays_more (LieIn tree) _ _ _ _ _ _ same c.loop-k.invariant.strays
+    (stays_of (LieIn tree) _ _ _ _ (rw first at c.take_block.ensures.strays)))
 
 pub finish-requires : goal.finish-requires
 finish-requires g c =
@@ -89,12 +99,15 @@ returns-clause-written g c =
     let tree : TreePlan = c.args.tree.now in
     let all : c.loop-k.k ≡ tree.blocks = omega arith in
     let so = c.loop-k.invariant.so_far in
-    let row : SoFar tree (g.D.Disk.first c.args.disk.now) (g.D.Disk.calls c.args.disk.now) c.loop-k.builder tree.blocks (g.D.Disk.calls c.loop-k.disk) so.0 =
-    subst (λ (k : ℕ). SoFar tree (g.D.Disk.first c.args.disk.now) (g.D.Disk.calls c.args.disk.now) c.loop-k.builder k (g.D.Disk.calls c.loop-k.disk) so.0) all so.1 in (
+    let row : SoFar tree (g.D.Disk.first c.args.disk.now) (g.D.Disk.calls c.args.disk.now) c.loop-k.builder tree.blocks
+    (g.D.Disk.calls c.loop-k.disk) so.0 =
+    subst (λ (k : ℕ). SoFar tree (g.D.Disk.first c.args.disk.now) (g.D.Disk.calls c.args.disk.now) c.loop-k.builder k
+    (g.D.Disk.calls c.loop-k.disk) so.0) all so.1 in (
       so.0,
       so_far_blocks tree _ _ _ _ so.0 row,
       so_far_shown tree _ _ _ _ so.0 row,
-      writes_hashes c.finish.result tree _ _ c.loop-k.builder _ _ so.0 row (c.finish.ensures.done so.0 row.has) (c.finish.ensures.root so.0 row.has)
+      writes_hashes c.finish.result tree _ _ c.loop-k.builder _ _ so.0 row (c.finish.ensures.done so.0 row.has)
+          (c.finish.ensures.root so.0 row.has)
           (c.finish.ensures.failed so.0 row.has),
     )
 
@@ -103,16 +116,20 @@ returns-clause-range g c =
     let tree : TreePlan = c.args.tree.now in
     let all : c.loop-k.k ≡ tree.blocks = omega arith in
     let some : 1 ≤ tree.blocks = c.requires.plan.some in
-    let reaches : Reaches tree tree.blocks (g.D.Disk.first c.args.disk.now) (g.D.Disk.calls c.args.disk.now) = rw all at c.loop-k.invariant.reaches in
-    told_so (history_told (g.D.Disk.first c.args.disk.now) (g.D.Disk.calls c.args.disk.now)) _ _ (λ h lies. on_ok c.finish.result lies) (reaches_all tree _ _ some reaches)
+    let reaches : Reaches tree tree.blocks (g.D.Disk.first c.args.disk.now) (g.D.Disk.calls c.args.disk.now) =
+    rw all at c.loop-k.invariant.reaches in
+    told_so (history_told (g.D.Disk.first c.args.disk.now) (g.D.Disk.calls c.args.disk.now)) _ _ (λ h lies. on_ok c.finish.result lies)
+    (reaches_all tree _ _ some reaches)
 
 pub returns-clause-strays : goal.returns-clause-strays
 returns-clause-strays g c =
     let tree : TreePlan = c.args.tree.now in
     let first = c.loop-k.invariant.first in
     let so = c.loop-k.invariant.so_far in
-    let lawful : IfSome (history_told (g.D.Disk.first c.args.disk.now) (g.D.Disk.calls c.loop-k.disk)) IsLawful = rw first at (g.met.D.Disk.lawful c.loop-k.disk) in
+    let lawful : IfSome (history_told (g.D.Disk.first c.args.disk.now) (g.D.Disk.calls c.loop-k.disk)) IsLawful =
+    rw first at (g.met.D.Disk.lawful c.loop-k.disk) in
     let same : SameLength (g.D.Disk.first c.args.disk.now) (g.D.Disk.calls c.args.disk.now) (g.D.Disk.calls c.loop-k.disk) =
     length_so_far tree _ _ c.loop-k.builder c.loop-k.k _ so.0 so.1 (omega arith) lawful in
     stays_says (LieIn tree) _ _ _ _
-    (stays_more (LieIn tree) _ _ _ _ _ _ same c.loop-k.invariant.strays (stays_of (LieIn tree) _ _ _ _ (rw first at c.finish.ensures.strays)))
+    (stays_more (LieIn tree) _ _ _ _ _ _ same c.loop-k.invariant.strays
+    (stays_of (LieIn tree) _ _ _ _ (rw first at c.finish.ensures.strays)))

@@ -12,7 +12,9 @@ invariant-loop-k g l = record {
   waiting : IsEmpty l.waiting;
   first : g.D.Disk.first l.disk ≡ g.D.Disk.first l.initial.disk;
   faults : g.D.Disk.faults l.disk ≡ g.D.Disk.faults l.initial.disk;
-  strays : Stays (LieIn l.tree) (g.D.Disk.first l.initial.disk) (g.D.Disk.calls l.initial.disk) (g.D.Disk.strays l.initial.disk) (g.D.Disk.strays l.disk);
+  strays : Stays (LieIn l.tree) (g.D.Disk.first l.initial.disk) (g.D.Disk.calls l.initial.disk) (g.D.Disk.strays l.initial.disk)
+      (g.D.Disk.strays l.disk);
   reaches : Reaches l.tree l.k (g.D.Disk.first l.initial.disk) (g.D.Disk.calls l.initial.disk);
-  so_far : (taken : List (List ℕ)) × SoFar l.tree (g.D.Disk.first l.initial.disk) (g.D.Disk.calls l.initial.disk) l.builder l.k (g.D.Disk.calls l.disk) taken;
+  so_far : (taken : List (List ℕ)) × SoFar l.tree (g.D.Disk.first l.initial.disk) (g.D.Disk.calls l.initial.disk) l.builder l.k
+      (g.D.Disk.calls l.disk) taken;
 }

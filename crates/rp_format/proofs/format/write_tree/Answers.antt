@@ -33,7 +33,8 @@ returns-in_err-write-clause-written g c =
       wrote.1,
       wrote.2,
       tree_err c.from_residual-in_err-write.result tree wrote.0 _ _ c.from_residual-in_err-write.ensures.0
-          (broke_off_at _ _ _ (hash_calls tree wrote.0) call [] wrote.3.done (rw c.write_superblock.ensures at c.in_err-write.ensures.calls.err)),
+          (broke_off_at _ _ _ (hash_calls tree wrote.0) call [] wrote.3.done
+          (rw c.write_superblock.ensures at c.in_err-write.ensures.calls.err)),
     )
 
 pub returns-clause-written : goal.returns-clause-written
@@ -46,7 +47,11 @@ returns-clause-written g c =
       wrote.1,
       wrote.2,
       record {
-        done = (one_more _ _ _ (hash_calls tree wrote.0) call wrote.3.done (rw c.write_superblock.ensures at c.in_ok-write.ensures.calls.ok), sym wrote.3.root ∙ same);
+        done = (
+          one_more _ _ _ (hash_calls tree wrote.0) call wrote.3.done
+              (rw c.write_superblock.ensures at c.in_ok-write.ensures.calls.ok),
+          sym wrote.3.root ∙ same,
+        );
         failed = tt;
       },
     )
@@ -56,15 +61,19 @@ returns-in_err-write-clause-strays g c =
     let tree : TreePlan = c.args.tree.now in
     let wrote = c.in_ok-root.ensures.written in
     let first = c.write_hashes.ensures.first in
-    let lawful : IfSome (history_told (g.D.Disk.first c.args.disk.now) (g.D.Disk.calls c.write_hashes.new.disk)) IsLawful = rw first at (g.met.D.Disk.lawful c.write_hashes.new.disk) in
+    let lawful : IfSome (history_told (g.D.Disk.first c.args.disk.now) (g.D.Disk.calls c.write_hashes.new.disk)) IsLawful =
+    rw first at (g.met.D.Disk.lawful c.write_hashes.new.disk) in
     let same : SameLength (g.D.Disk.first c.args.disk.now) (g.D.Disk.calls c.args.disk.now) (g.D.Disk.calls c.write_hashes.new.disk) =
     hash_length tree wrote.0 _ _ _ wrote.3.done lawful in
     let size : length c.write_superblock.new.block ≡ 4096 = omega arith in
     let ends : tree.hash_at + 4096 ≤ hash_end tree = block_ends tree c.requires.plan in
-    let one : Stays (LieIn tree) (g.D.Disk.first c.args.disk.now) (g.D.Disk.calls c.args.disk.now) (g.D.Disk.strays c.args.disk.now) (g.D.Disk.strays c.write_hashes.new.disk) =
+    let one : Stays (LieIn tree) (g.D.Disk.first c.args.disk.now) (g.D.Disk.calls c.args.disk.now) (g.D.Disk.strays c.args.disk.now)
+    (g.D.Disk.strays c.write_hashes.new.disk) =
     stays_of (LieIn tree) _ _ _ _ c.write_hashes.ensures.strays in
-    let two : Stays (LieIn tree) (g.D.Disk.first c.args.disk.now) (g.D.Disk.calls c.write_hashes.new.disk) (g.D.Disk.strays c.write_hashes.new.disk) (g.D.Disk.strays c.write.new.self) =
-    stays_call (LieIn tree) _ _ (tree.hash_at + length c.write_superblock.new.block) _ _ (λ n lies. let end = lies.1 in omega arith) (rw first at c.write.ensures.strays) in
+    let two : Stays (LieIn tree) (g.D.Disk.first c.args.disk.now) (g.D.Disk.calls c.write_hashes.new.disk)
+    (g.D.Disk.strays c.write_hashes.new.disk) (g.D.Disk.strays c.write.new.self) =
+    stays_call (LieIn tree) _ _ (tree.hash_at + length c.write_superblock.new.block) _ _ (λ n lies. let end = lies.1 in omega arith)
+    (rw first at c.write.ensures.strays) in
     stays_says (LieIn tree) _ _ _ _ (stays_more (LieIn tree) _ _ _ _ _ _ same one two)
 
 pub returns-clause-strays : goal.returns-clause-strays
@@ -72,13 +81,17 @@ returns-clause-strays g c =
     let tree : TreePlan = c.args.tree.now in
     let wrote = c.in_ok-root.ensures.written in
     let first = c.write_hashes.ensures.first in
-    let lawful : IfSome (history_told (g.D.Disk.first c.args.disk.now) (g.D.Disk.calls c.write_hashes.new.disk)) IsLawful = rw first at (g.met.D.Disk.lawful c.write_hashes.new.disk) in
+    let lawful : IfSome (history_told (g.D.Disk.first c.args.disk.now) (g.D.Disk.calls c.write_hashes.new.disk)) IsLawful =
+    rw first at (g.met.D.Disk.lawful c.write_hashes.new.disk) in
     let same : SameLength (g.D.Disk.first c.args.disk.now) (g.D.Disk.calls c.args.disk.now) (g.D.Disk.calls c.write_hashes.new.disk) =
     hash_length tree wrote.0 _ _ _ wrote.3.done lawful in
     let size : length c.write_superblock.new.block ≡ 4096 = omega arith in
     let ends : tree.hash_at + 4096 ≤ hash_end tree = block_ends tree c.requires.plan in
-    let one : Stays (LieIn tree) (g.D.Disk.first c.args.disk.now) (g.D.Disk.calls c.args.disk.now) (g.D.Disk.strays c.args.disk.now) (g.D.Disk.strays c.write_hashes.new.disk) =
+    let one : Stays (LieIn tree) (g.D.Disk.first c.args.disk.now) (g.D.Disk.calls c.args.disk.now) (g.D.Disk.strays c.args.disk.now)
+    (g.D.Disk.strays c.write_hashes.new.disk) =
     stays_of (LieIn tree) _ _ _ _ c.write_hashes.ensures.strays in
-    let two : Stays (LieIn tree) (g.D.Disk.first c.args.disk.now) (g.D.Disk.calls c.write_hashes.new.disk) (g.D.Disk.strays c.write_hashes.new.disk) (g.D.Disk.strays c.write.new.self) =
-    stays_call (LieIn tree) _ _ (tree.hash_at + length c.write_superblock.new.block) _ _ (λ n lies. let end = lies.1 in omega arith) (rw first at c.write.ensures.strays) in
+    let two : Stays (LieIn tree) (g.D.Disk.first c.args.disk.now) (g.D.Disk.calls c.write_hashes.new.disk)
+    (g.D.Disk.strays c.write_hashes.new.disk) (g.D.Disk.strays c.write.new.self) =
+    stays_call (LieIn tree) _ _ (tree.hash_at + length c.write_superblock.new.block) _ _ (λ n lies. let end = lies.1 in omega arith)
+    (rw first at c.write.ensures.strays) in
     stays_says (LieIn tree) _ _ _ _ (stays_more (LieIn tree) _ _ _ _ _ _ same one two)

@@ -11,24 +11,33 @@ use Rattle.rp_format.proofs.Told.{SameLength, same_length, stays_call, stays_mor
 use Rattle.rp_format.proofs.waiting.Waiting.write_to.Goals as goal
 
 pub loop-k-init : goal.loop-k-init
-loop-k-init g c = record { first = refl; so_far = sym (append-nil (g.D.Disk.calls c.args.disk.now)); faults = refl; strays = stays_none _ _ _ _ }
+loop-k-init g c = record {
+  first = refl;
+  so_far = sym (append-nil (g.D.Disk.calls c.args.disk.now));
+  faults = refl;
+  strays =
+      stays_none _ _ _ _;
+}
 
 pub overflow_add-place : goal.overflow_add-place
 overflow_add-place g c =
     let below : c.loop-k.k < c.args.self.now.count = omega arith in
-    let end = ends-at c.args.hash_at (2 ^ 64 - 1) c.args.self.now.count c.loop-k.k c.args.self.now.places c.args.self.now.blocks below c.requires.ends in
+    let end = ends-at c.args.hash_at (2 ^ 64 - 1) c.args.self.now.count c.loop-k.k c.args.self.now.places c.args.self.now.blocks below
+    c.requires.ends in
     omega arith
 
 pub overflow_mul-place : goal.overflow_mul-place
 overflow_mul-place g c =
     let below : c.loop-k.k < c.args.self.now.count = omega arith in
-    let end = ends-at c.args.hash_at (2 ^ 64 - 1) c.args.self.now.count c.loop-k.k c.args.self.now.places c.args.self.now.blocks below c.requires.ends in
+    let end = ends-at c.args.hash_at (2 ^ 64 - 1) c.args.self.now.count c.loop-k.k c.args.self.now.places c.args.self.now.blocks below
+    c.requires.ends in
     omega arith
 
 pub overflow_add-place-in-loop-k : goal.overflow_add-place-in-loop-k
 overflow_add-place-in-loop-k g c =
     let below : c.loop-k.k < c.args.self.now.count = omega arith in
-    let end = ends-at c.args.hash_at (2 ^ 64 - 1) c.args.self.now.count c.loop-k.k c.args.self.now.places c.args.self.now.blocks below c.requires.ends in
+    let end = ends-at c.args.hash_at (2 ^ 64 - 1) c.args.self.now.count c.loop-k.k c.args.self.now.places c.args.self.now.blocks below
+    c.requires.ends in
     omega arith
 
 pub returns-in_err-write-clause-ran : goal.returns-in_err-write-clause-ran
@@ -37,7 +46,11 @@ returns-in_err-write-clause-ran g c =
     let split = writes-split c.args.hash_at c.args.self.now.count c.loop-k.k c.args.self.now.places c.args.self.now.blocks below in
     let so_far = c.loop-k.invariant.so_far in
     let calls : List Call = writes_of c.args.hash_at (kept_puts c.loop-k.k c.args.self.now.places c.args.self.now.blocks) in
-    record { ok = search rules; err = on_err c.from_residual.result (broke_off_in _ _ _ calls _ split.0 _ split.1 so_far c.in_err-write.ensures.calls.err) }
+    record {
+      ok = search rules;
+      err =
+          on_err c.from_residual.result (broke_off_in _ _ _ calls _ split.0 _ split.1 so_far c.in_err-write.ensures.calls.err);
+    }
 
 pub returns-in_err-write-clause-strays : goal.returns-in_err-write-clause-strays
 returns-in_err-write-clause-strays g c =
@@ -51,7 +64,8 @@ returns-in_err-write-clause-strays g c =
     let size : length (bytes_at blocks (4096 * k) 4096) ≡ 4096 = length-bytes_at blocks (4096 * k) 4096 (omega arith) in
     let calls : List Call = writes_of c.args.hash_at (kept_puts k places blocks) in
     let same : SameLength (g.D.Disk.first c.args.disk.now) (g.D.Disk.calls c.args.disk.now) (g.D.Disk.calls c.loop-k.disk) =
-    same_length _ _ _ calls c.loop-k.invariant.so_far (writes-are c.args.hash_at (kept_puts k places blocks)) (rw first at (g.met.D.Disk.lawful c.loop-k.disk)) in
+    same_length _ _ _ calls c.loop-k.invariant.so_far (writes-are c.args.hash_at (kept_puts k places blocks))
+    (rw first at (g.met.D.Disk.lawful c.loop-k.disk)) in
     stays_says (λ n. EndBy c.args.hash_at n (kept_puts count places blocks)) _ _ _ _
     (stays_more (λ n. EndBy c.args.hash_at n (kept_puts count places blocks)) _ _ _ _ _ _ same c.loop-k.invariant.strays
     (stays_call _ _ _ _ _ _
@@ -70,7 +84,8 @@ loop-k-preserved g c =
     let size : length (bytes_at blocks (4096 * k) 4096) ≡ 4096 = length-bytes_at blocks (4096 * k) 4096 (omega arith) in
     let calls : List Call = writes_of c.args.hash_at (kept_puts k places blocks) in
     let same : SameLength (g.D.Disk.first c.args.disk.now) (g.D.Disk.calls c.args.disk.now) (g.D.Disk.calls c.loop-k.disk) =
-    same_length _ _ _ calls c.loop-k.invariant.so_far (writes-are c.args.hash_at (kept_puts k places blocks)) (rw first at (g.met.D.Disk.lawful c.loop-k.disk)) in
+    same_length _ _ _ calls c.loop-k.invariant.so_far (writes-are c.args.hash_at (kept_puts k places blocks))
+    (rw first at (g.met.D.Disk.lawful c.loop-k.disk)) in
     record {
       first = c.write.ensures.first ∙ first;
       so_far = one_more _ _ _ calls _ c.loop-k.invariant.so_far c.in_ok-write.ensures.calls.ok
@@ -83,4 +98,6 @@ loop-k-preserved g c =
     }
 
 pub returns-clause-strays : goal.returns-clause-strays
-returns-clause-strays g c = stays_says (λ n. EndBy c.args.hash_at n (kept_puts c.args.self.now.count c.args.self.now.places c.args.self.now.blocks)) _ _ _ _ c.loop-k.invariant.strays
+returns-clause-strays g c =
+    stays_says (λ n. EndBy c.args.hash_at n (kept_puts c.args.self.now.count c.args.self.now.places c.args.self.now.blocks)) _ _ _ _
+    c.loop-k.invariant.strays
