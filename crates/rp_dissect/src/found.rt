@@ -28,8 +28,8 @@ const UNIT: u64 = 512;
 /// The first bytes of an encrypted volume.
 const LUKS: [u8; 6] = [0x4c, 0x55, 0x4b, 0x53, 0xba, 0xbe];
 
-/// What is found of each designator, in order. Of a row the first bytes are read, and of its hash tree the superblock and
-/// the top.
+/// What is found of each designator, in order. Of a row of a block or more the first bytes are read, and of its hash tree the
+/// superblock and the top.
 pub fn found_in<D: Disk>(
     disk: &mut D,
     rows: &[Row],

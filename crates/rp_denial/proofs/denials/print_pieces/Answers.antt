@@ -1,5 +1,4 @@
 use Rattle.std.proofs.Common.{ℕ, List, ◌+◌, take, drop, sym, inl, inr, arith}
-
 use Rattle.std.specs.Borrow.{Bor}
 use Rattle.std.specs.List.{flat_map}
 use Rattle.rp_outcome.proofs.Printed.{all_as, part_as, part_more, prints_none, then_all, then_part}
