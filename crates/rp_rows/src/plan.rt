@@ -281,7 +281,7 @@ fn refusals(rt: HostRuntime) -> Result<(), Fail> {
         },
         Case {
             a: "Type=linux-generic\nCopyBlocks=s.raw\nSizeMaxBytes=4M\n",
-            image: Image::Blank(MIB),
+            image: Image::Blank(32 * MIB),
             source: 5 * MIB,
             status: 5,
             printed: "error 5 SourceTooLarge a.conf 5242880 4194304\n",
