@@ -1,4 +1,4 @@
-//! The commands of `repart`, over a disk and a sink that are handed in.
+//! The commands of `repart`, over a disk, folders, sources and a sink that are handed in.
 #![tactic(auto)]
 
 mod commands;
