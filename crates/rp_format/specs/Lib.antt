@@ -1,4 +1,0 @@
-pub mod Puts
-pub mod Waiting
-pub mod Written
-pub mod Taking
