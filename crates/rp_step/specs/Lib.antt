@@ -1,0 +1,5 @@
+pub mod Causes
+pub mod Found
+pub mod Made
+pub mod Sourced
+pub mod Stocked

@@ -1,0 +1,13 @@
+//! A step of carrying out a plan is made: its calls on the disk.
+#![tactic(auto)]
+
+mod contents;
+mod copies;
+mod fault;
+mod paths;
+mod rooms;
+mod step;
+
+pub use fault::ApplyFault;
+pub use paths::path;
+pub use step::make_step;
