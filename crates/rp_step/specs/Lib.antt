@@ -1,5 +1,6 @@
 pub mod Causes
 pub mod Found
 pub mod Made
+pub mod Run
 pub mod Sourced
 pub mod Stocked

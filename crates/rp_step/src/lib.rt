@@ -7,7 +7,9 @@ mod fault;
 mod paths;
 mod rooms;
 mod step;
+mod steps;
 
 pub use fault::ApplyFault;
 pub use paths::path;
 pub use step::make_step;
+pub use steps::make_steps;
