@@ -1,9 +1,8 @@
 -- Each step of a well formed plan can be made.
-use Rattle.std.proofs.Common.{◌≡◌, ◌≢◌, ℕ, ◌+◌, ◌*◌, ◌-◌, ◌^◌, ◌<◌, ◌≤◌, ◌⊎◌, inl, inr, Bool, true, false, cond, eqb, leb, List, [], ◌∷◌, ◌++◌, length, get_or, Option, Some, None, refl, sym, ap, ◌∙◌, subst, arith, All}
-use Rattle.std.specs.Option.{option_map_or}
-use Rattle.std.proofs.lemmas.Bool.{cases_order, leb-false}
+use Rattle.std.proofs.Common.{◌≡◌, ◌≢◌, ℕ, ◌+◌, ◌*◌, ◌-◌, ◌^◌, ◌<◌, ◌≤◌, ◌⊎◌, inl, inr, List, [], ◌∷◌, length, get_or, refl, sym, ap, ◌∙◌, subst, arith, All}
+use Rattle.std.proofs.lemmas.Bool.{cases_order}
 use Rattle.std.proofs.lemmas.List.{get_or_default}
-use Rattle.std.proofs.lemmas.List.Elements.{All-append, All-cons, All-nil}
+use Rattle.std.proofs.lemmas.List.Elements.{All-cons, All-nil}
 use Rattle.rp_base.specs.Plan.{IsPair, IsWellFormed, Noted, noted_of}
 use Rattle.rp_base.specs.Table.{AreApart}
 use Rattle.rp_base.specs.Trees.{hash_blocks}
@@ -16,12 +15,13 @@ use Rattle.rp_base.specs.declared.table.Row.{Row}
 use Rattle.rp_format.specs.Written.{IsTreePlan, data_end, hash_end}
 use Rattle.rp_step.specs.Found.{CanMake, tree_of}
 use Rattle.rp_steps.specs.Planned.{HasRoom, IsPlanned}
-use Rattle.rp_steps.specs.Steps.{byte_count, byte_of_slot, copy_steps, from_byte, mebibyte, payload_steps, rest_steps, source_len, steps, tree_steps, zero_steps}
+use Rattle.rp_steps.specs.Steps.{byte_count, byte_of_slot, from_byte, steps, tree_steps}
 use Rattle.rp_steps.specs.declared.step.Step.{Step}
 use Rattle.rp_steps.specs.declared.step.Step.TheVariants.{Grow, Zero, Copy, Tree, ClosePrimary, ArrayPrimary, HeaderPrimary, CloseBackup, ArrayBackup, HeaderBackup, Mbr, Sync}
 use Rattle.rp_steps.proofs.Planned.{length-noted_of, planned}
 use Rattle.rp_apply.specs.Ready.{NamesPath}
 use Rattle.rp_apply.proofs.Every.{every_step}
+use Rattle.rp_apply.proofs.Parts.{OfRange, payload_each, zeros_each}
 use Rattle.rp_apply.proofs.Partners.{Partner, noted_at, partner_of}
 
 -- the range of a step is one of 64 bits, and a tree lies beside its data
@@ -31,50 +31,8 @@ HasRange (Copy file at len) = at + len < 2 ^ 64
 HasRange (Tree data_at hash_at blocks salt uuid root) = IsTreePlan (tree_of data_at hash_at blocks salt uuid root)
 HasRange other = Unit {0}
 
-either : (P : Step → Type 0) (b : Bool) (xs ys : List Step) → (b ≡ true → All P xs) → (b ≡ false → All P ys) → All P (cond b xs ys)
-either P true xs ys x y = x refl
-either P false xs ys x y = y refl
-
-one : (step : Step) → HasRange step → All HasRange (step ∷ [])
-one step has = All-cons HasRange step [] has (All-nil HasRange)
-
-zeros : (at len : ℕ) → at + len < 2 ^ 64 → All HasRange (zero_steps at len)
-unfolding zero_steps
-zeros at len fits = either HasRange (eqb len 0) [] (Zero at len ∷ []) (λ e. All-nil HasRange) (λ e. one (Zero at len) fits)
-
-rest : (role : Role) (at len : ℕ) → at + len < 2 ^ 64 → All HasRange (rest_steps role at len)
-unfolding rest_steps mebibyte
-rest Plain at len fits = either HasRange (leb len (2 * mebibyte)) (zero_steps at len) (Zero at mebibyte ∷ Zero (at + (len - mebibyte)) mebibyte ∷ [])
-    (λ e. zeros at len fits)
-    (λ e.
-    let more = leb-false len (2 * mebibyte) e in
-    All-cons HasRange (Zero at mebibyte) (Zero (at + (len - mebibyte)) mebibyte ∷ []) (omega (arith, more, fits))
-    (one (Zero (at + (len - mebibyte)) mebibyte) (omega (arith, more, fits))))
-rest (Data partner root) at len fits = zeros at len fits
-rest (Hash partner blocks salt uuid root) at len fits = zeros at len fits
-
-of_file : (file : Option ℕ) (at len : ℕ) → at + len < 2 ^ 64 → All HasRange (option_map_or (λ f. Copy f at len ∷ []) file [])
-of_file None at len fits = All-nil HasRange
-of_file (Some file) at len fits = one (Copy file at len) fits
-
-copying : (noted : Noted) → from_byte noted.0 + source_len noted.1 < 2 ^ 64 → All HasRange (copy_steps noted)
-unfolding copy_steps
-copying noted fits = either HasRange (eqb (source_len noted.1) 0) [] (option_map_or (λ f. Copy f (from_byte noted.0) (source_len noted.1) ∷ []) noted.1.file [])
-    (λ e. All-nil HasRange) (λ e. of_file noted.1.file (from_byte noted.0) (source_len noted.1) fits)
-
-filling : (noted : Noted) (role : Role) → IsPlanned noted
-    → All HasRange (copy_steps noted ++ rest_steps role (from_byte noted.0 + source_len noted.1) (byte_count noted.0 - source_len noted.1))
-filling noted role is =
-    let fits = is.fits in
-    let source = is.source in
-    All-append HasRange _ _ (copying noted (omega (arith, fits, source)))
-    (rest role (from_byte noted.0 + source_len noted.1) (byte_count noted.0 - source_len noted.1) (omega (arith, fits, source)))
-
-payloads : (noted : Noted) (role : Role) → IsPlanned noted → All HasRange (payload_steps noted role)
-unfolding payload_steps
-payloads noted Plain is = filling noted Plain is
-payloads noted (Data partner root) is = filling noted (Data partner root) is
-payloads noted (Hash partner blocks salt uuid root) is = All-nil HasRange
+of_range : (low high : ℕ) → high < 2 ^ 64 → OfRange HasRange low high
+of_range low high few = record { zero = λ at len from to. omega (arith, few, to); copy = λ file at len from to. omega (arith, few, to) }
 
 module _ (seen : Seen) (plan : Plan) (formed : IsWellFormed seen plan) where
   -- a row of the plan, at its place
@@ -94,7 +52,7 @@ module _ (seen : Seen) (plan : Plan) (formed : IsWellFormed seen plan) where
       → j < length (noted_of plan) → i ≢ j
   other_place under noted i j is here pair below = λ e.
       let at_j : get_or (noted_of plan) j under ≡ under = subst (λ (n : ℕ). get_or (noted_of plan) n under ≡ under) e is in
-      let same : noted ≡ under = sym here ∙ get_or_default (noted_of plan) j under noted below ∙ at_j in
+      let same : noted ≡ under = sym here ∙ get_or_default (noted_of plan) j noted under below ∙ at_j in
       let data_is = pair.payload_role.1 in
       let hash_is = pair.hash_role.3 in
       let clash : under.1.role ≡ noted.1.role = ap (λ (n : Noted). n.1.role) (sym same) in
@@ -164,7 +122,8 @@ module _ (seen : Seen) (plan : Plan) (formed : IsWellFormed seen plan) where
       let size = hash_blocks blocks in
       All-cons HasRange (Tree from (from_byte noted.0) blocks salt uuid root) _
       (tree_plan from blocks salt uuid root p.under.0 noted.0 at whole room.0 room.1 room.2 far fits apart)
-      (zeros (from_byte noted.0 + 4096 * size) (byte_count noted.0 - 4096 * size) (omega (arith, fits, room.2)))
+      (zeros_each HasRange (from_byte noted.0) (from_byte noted.0 + byte_count noted.0) (of_range _ _ (omega (arith, fits)))
+      (from_byte noted.0 + 4096 * size) (byte_count noted.0 - 4096 * size) (omega arith) (omega (arith, room.2)))
 
   pub ranges : All HasRange (steps plan seen)
   ranges = every_step HasRange plan IsRow record {
@@ -173,7 +132,9 @@ module _ (seen : Seen) (plan : Plan) (formed : IsWellFormed seen plan) where
     mbr = tt;
     primary = (tt, tt, tt);
     backup = (tt, tt, tt);
-    payload = λ noted row. payloads noted noted.1.role row.planned_is;
+    payload = λ noted row.
+        let fits = row.planned_is.fits in
+        payload_each HasRange noted noted.1.role row.planned_is.source (of_range _ _ (omega (arith, fits)));
     tree = λ noted row. trees noted noted.1.role refl row;
   } seen are_rows
 

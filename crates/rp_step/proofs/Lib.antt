@@ -1,3 +1,5 @@
 pub mod Going
+pub mod Kept
 pub mod Leveled
 pub mod Single
+pub mod Tied
