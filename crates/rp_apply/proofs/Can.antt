@@ -32,7 +32,7 @@ HasRange (Tree data_at hash_at blocks salt uuid root) = IsTreePlan (tree_of data
 HasRange other = Unit {0}
 
 of_range : (low high : ℕ) → high < 2 ^ 64 → OfRange HasRange low high
-of_range low high few = record { zero = λ at len from to. omega (arith, few, to); copy = λ file at len from to. omega (arith, few, to) }
+of_range low high few = record { zero = λ at len some from to. omega (arith, few, to); copy = λ file at len some from to. omega (arith, few, to) }
 
 module _ (seen : Seen) (plan : Plan) (formed : IsWellFormed seen plan) where
   -- a row of the plan, at its place

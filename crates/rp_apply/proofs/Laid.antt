@@ -1,5 +1,6 @@
 -- When the steps of a plan reach a tree, its data row holds its source.
-use Rattle.std.proofs.Common.{◌≡◌, ◌≢◌, ℕ, ◌+◌, ◌*◌, ◌-◌, ◌/◌, ◌<◌, ◌≤◌, ◌⊎◌, replicate, inl, inr, Bool, true, false, cond, List, [], ◌∷◌, ◌++◌, length, get_or, filter, flat_map, refl, sym, ap, ap₂, ◌∙◌, subst, arith, All, append_assoc}
+use Rattle.std.proofs.Common.{◌≡◌, ◌≢◌, ℕ, ◌+◌, ◌*◌, ◌-◌, ◌/◌, ◌<◌, ◌≤◌, ◌⊎◌, replicate, inl, inr, Bool, true, false, cond, ltb, List, [], ◌∷◌, ◌++◌, length, get_or, filter, flat_map, refl, sym, ap, ap₂, ◌∙◌, subst, arith, All, append_assoc}
+use Rattle.std.proofs.lemmas.Bool.{ltb-false}
 use Rattle.std.proofs.lemmas.Grind.{flat_map-append}
 use Rattle.std.proofs.lemmas.List.{append-nil, get_or_default, length-replicate}
 use Rattle.std.proofs.lemmas.List.Elements.{All-append, All-cons, All-filter, All-head, All-nil, All-tail}
@@ -29,17 +30,20 @@ use Rattle.rp_disk.proofs.Ranges.{bytes_at-all_done, length-all_done}
 use Rattle.rp_steps.specs.Calls.{calls_of, calls_of_steps}
 use Rattle.rp_steps.specs.Contents.{NotesFit, RoleFits, Sources, contents, contents_as, payload, payload_at}
 use Rattle.rp_steps.specs.Planned.{HasRoom}
-use Rattle.rp_steps.specs.Steps.{byte_count, byte_of_slot, contents_steps, from_byte, is_new, new_rows, payload_steps, steps, tree_steps, zero_steps}
+use Rattle.rp_steps.specs.Steps.{byte_count, byte_of_slot, contents_steps, copy_phases, from_byte, growth, is_new, mbr_phases, new_rows, payload_steps, phase_of, phases, steps, synced, tree_steps, written_copies, zero_steps}
 use Rattle.rp_steps.specs.declared.step.Step.{Step}
 use Rattle.rp_steps.specs.declared.step.Step.TheVariants.{Grow, Zero, Copy, Tree, ClosePrimary, ArrayPrimary, HeaderPrimary, CloseBackup, ArrayBackup, HeaderBackup, Mbr, Sync}
 use Rattle.rp_steps.proofs.Contented.{are_in_new_rows, contents_hold}
+use Rattle.rp_steps.proofs.Copying.{part_added}
 use Rattle.rp_steps.proofs.Planned.{length-noted_of, one_note}
 use Rattle.rp_steps.proofs.Rowed.{HasFile, has_file, row_fill}
 use Rattle.rp_steps.proofs.Written.{Each-append, Writes, inside_writes}
-use Rattle.rp_stops.specs.Rows.{HoldContents, IsInNewRow, IsInside, grown}
+use Rattle.rp_stops.specs.Rows.{HoldContents, IsInNewRow, IsInside}
 use Rattle.rp_verity.specs.Filled.{cut}
 use Rattle.rp_step.proofs.Tied.{AreLaid, IsLaid}
 use Rattle.rp_apply.proofs.Can.{IsRow, are_rows, other_place, partner_at, rows_apart}
+use Rattle.rp_apply.proofs.Every.{Everywhere, copies, grown, mbr}
+use Rattle.rp_apply.proofs.Inside.{inside_row}
 use Rattle.rp_apply.proofs.Parts.{OfRange, payload_each, zeros_each}
 use Rattle.rp_apply.proofs.Partners.{Partner, noted_at, payload_of_row}
 
@@ -49,7 +53,7 @@ IsNoTree (Tree data_at hash_at blocks salt uuid root) = ⊥
 IsNoTree other = Unit {0}
 
 no_tree : (low high : ℕ) → OfRange IsNoTree low high
-no_tree low high = record { zero = λ at len from to. tt; copy = λ file at len from to. tt }
+no_tree low high = record { zero = λ at len some from to. tt; copy = λ file at len some from to. tt }
 
 module _ (plan : Plan) (sources : Sources) where
   laid_one : (image : List ℕ) (step : Step) → IsNoTree step → IsLaid plan sources image step
@@ -119,12 +123,6 @@ module _ (plan : Plan) (sources : Sources) where
     source_is : (noted : Noted) → Row_of noted → HasFile noted
     source_is noted row = subst HasFile row.is (has_file (get_or (noted_of plan) row.place noted) (formed.sources row.place noted row.below))
 
-    -- a call that is planned within a range is one inside the row with that range
-    inside_row : (value : ℕ → ℕ) (row : Row) (call : Call) → Writes value (from_byte row) (from_byte row + byte_count row) call → IsInside row call
-    inside_row value row (Write at bytes) writes = (writes.0, let b = writes.1 in omega arith)
-    inside_row value row SyncCall writes = absurd writes
-    inside_row value row (SetLen len) writes = absurd writes
-
     -- the calls of a tree lie in its row
     in_row : (noted : Noted) (role : Role) → Row_of noted → noted.1.role ≡ role
         → Each (IsInside noted.0) (calls_of_steps plan sources (tree_steps plan.goal.rows noted.0 role))
@@ -134,7 +132,7 @@ module _ (plan : Plan) (sources : Sources) where
         let fill = row_fill plan sources noted role image (source_is noted row) row.planned_is.source fits
         (subst (λ (r : Role). HasRoom noted.0 r) is row.planned_is.tree) (subst RoleFits is (role_fits noted row)) in
         let value = λ (k : ℕ). get_or (contents_as plan sources image noted role) (k - from_byte noted.0) 0 in
-        Each-imp (Writes value (from_byte noted.0) (from_byte noted.0 + byte_count noted.0)) (IsInside noted.0) (λ call writes. inside_row value noted.0 call writes)
+        Each-imp (Writes value (from_byte noted.0) (from_byte noted.0 + byte_count noted.0)) (IsInside noted.0) (λ call writes. inside_row value _ _ noted.0 call (omega arith) (omega arith) writes)
         (calls_of_steps plan sources (tree_steps plan.goal.rows noted.0 role))
         (Each-right (Writes value (from_byte noted.0) (from_byte noted.0 + byte_count noted.0)) (calls_of_steps plan sources (payload_steps noted role))
         (calls_of_steps plan sources (tree_steps plan.goal.rows noted.0 role)) fill.writes)
@@ -260,6 +258,11 @@ module _ (plan : Plan) (sources : Sources) where
     new_are : All Row_of (new_rows plan)
     new_are = All-filter (λ noted. is_new noted.1.change) Row_of (noted_of plan) (are_rows seen plan formed)
 
+    new_inside : (call : Call) → IsInNewRow plan call → Inside (512 * plan.target) call
+    new_inside call is =
+        let row = subst Row_of is.3 (are_rows seen plan formed is.0 is.1 is.2) in
+        inside_target is.1.0 call (row_inside is.1 row) is.4.1
+
     -- the contents, on an image of the target's length
     pub contents_laid : (image : List ℕ) → length image ≡ 512 * plan.target → AreLaid plan sources image (contents_steps plan)
     unfolding contents_steps
@@ -273,10 +276,55 @@ module _ (plan : Plan) (sources : Sources) where
         laid_both image payloads trees (laid_none plan sources image payloads (payloads_none (new_rows plan) new_are))
         (trees_laid image (all_done image front) (new_rows plan) new_are
         record {
-          long = ?;
+          long = length-all_done front image (512 * plan.target) long
+              (Each-left (Inside (512 * plan.target)) front (calls_of_steps plan sources trees)
+              (subst (λ (l : List Call). Each (Inside (512 * plan.target)) l) split
+              (Each-imp (IsInNewRow plan) (Inside (512 * plan.target)) new_inside (calls_of_steps plan sources (payloads ++ trees)) (are_in_new_rows plan sources seen formed fit image long))));
           hold = subst (λ (l : List ℕ). HoldContents plan (contents plan sources image) l) (ap (all_done image) split ∙ all_done-append image front (calls_of_steps plan sources trees)) hold;
         })
 
-    -- OPEN: `long` above, by `are_in_new_rows` of rp_steps.proofs.Contented with `Each-left`, `length-all_done`; and
-    -- laid : (old : List ℕ) → length old ≡ 512 * seen.sectors → AreLaid plan sources old (steps plan seen)
-    -- by `laid_both` over `growth`, `contents_steps ++ Sync`, copies and the MBR, as `every_step` splits the steps.
+    -- a phase
+    phase_laid : (image : List ℕ) (steps : List Step) → AreLaid plan sources image steps → AreLaid plan sources image (synced (phase_of steps))
+    phase_laid image [] laid = tt
+    phase_laid image (step ∷ steps) laid =
+        laid_both image ((step ∷ steps) ++ Sync ∷ []) [] (laid_both image (step ∷ steps) (Sync ∷ []) laid (tt, tt)) tt
+
+    -- an image that grows has the target's length then
+    grown_long : (old : List ℕ) (b : Bool) → ltb seen.sectors plan.target ≡ b → length old ≡ 512 * seen.sectors
+        → length (all_done old (calls_of_steps plan sources (synced (cond b ((Grow (512 * plan.target) ∷ []) ∷ []) [])))) ≡ 512 * plan.target
+    unfolding calls_of
+    grown_long old true is long = length-resized old (512 * plan.target)
+    grown_long old false is long = let few = ltb-false seen.sectors plan.target is in let least = formed.target.least in omega (arith, few, least, long)
+
+    after_growth : (old : List ℕ) → length old ≡ 512 * seen.sectors → length (all_done old (calls_of_steps plan sources (synced (growth plan seen)))) ≡ 512 * plan.target
+    unfolding growth
+    after_growth old long = grown_long old (ltb seen.sectors plan.target) refl long
+
+    nowhere : Everywhere plan IsNoTree (λ noted. ⊥)
+    nowhere = record {
+      sync = tt;
+      grow = tt;
+      mbr = tt;
+      primary = (tt, tt, tt);
+      backup = (tt, tt, tt);
+      payload = λ noted no. absurd no;
+      tree = λ noted no. absurd no;
+    }
+
+    -- all steps, on an image of the length that was seen
+    pub laid : (old : List ℕ) → length old ≡ 512 * seen.sectors → AreLaid plan sources old (steps plan seen)
+    unfolding steps phases
+    laid old long =
+        let order = written_copies plan seen in
+        let contents = phase_of (contents_steps plan) in
+        let one = part_added (growth plan seen) contents _ _ refl refl in
+        let two = part_added _ (flat_map copy_phases order) _ _ one refl in
+        let three = part_added _ (mbr_phases plan seen) _ _ two refl in
+        let none = λ (image : List ℕ) (steps : List Step) (no : All IsNoTree steps). laid_none image steps no in
+        subst (λ (l : List Step). AreLaid plan sources old l) three
+        (laid_both old _ _ (laid_both old _ _ (laid_both old (synced (growth plan seen)) (synced contents)
+        (none old _ (grown IsNoTree plan (λ noted. ⊥) nowhere seen))
+        (phase_laid (all_done old (calls_of_steps plan sources (synced (growth plan seen)))) (contents_steps plan)
+        (contents_laid (all_done old (calls_of_steps plan sources (synced (growth plan seen)))) (after_growth old long))))
+        (none _ _ (copies IsNoTree plan (λ noted. ⊥) nowhere order)))
+        (none _ _ (mbr IsNoTree plan (λ noted. ⊥) nowhere seen)))

@@ -1,3 +1,7 @@
+pub mod Can
 pub mod Every
-pub mod Named
+pub mod Laid
 pub mod Made
+pub mod Named
+pub mod Partners
+pub mod Parts
