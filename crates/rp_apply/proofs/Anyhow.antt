@@ -7,7 +7,8 @@ use Rattle.rp_base.specs.Plan.{IsWellFormed, Noted, noted_of}
 use Rattle.rp_base.specs.Trees.{hash_blocks}
 use Rattle.rp_base.specs.declared.geometry.Which.{Which}
 use Rattle.rp_base.specs.declared.geometry.Which.TheVariants.{Primary, Backup}
-use Rattle.rp_base.specs.declared.plan.Change.TheVariants.{New}
+use Rattle.rp_base.specs.declared.plan.Change.{Change}
+use Rattle.rp_base.specs.declared.plan.Change.TheVariants.{New, Changed, Same}
 use Rattle.rp_base.specs.declared.plan.Note.{Note}
 use Rattle.rp_base.specs.declared.plan.Plan.{Plan}
 use Rattle.rp_base.specs.declared.plan.Role.{Role}
@@ -28,7 +29,7 @@ use Rattle.rp_steps.specs.Steps.{byte_count, byte_of_slot, contents_steps, copy_
 use Rattle.rp_steps.specs.declared.step.Step.{Step}
 use Rattle.rp_steps.specs.declared.step.Step.TheVariants.{Grow, Zero, Copy, Tree, ClosePrimary, ArrayPrimary, HeaderPrimary, CloseBackup, ArrayBackup, HeaderBackup, Mbr, Sync}
 use Rattle.rp_steps.proofs.Copying.{part_added}
-use Rattle.rp_steps.proofs.Made.{mbr_part, order_is}
+use Rattle.rp_steps.proofs.Made.{calls-synced, copies_as, growth_as, mbr_part, order_is}
 use Rattle.rp_steps.proofs.Planned.{length-noted_of, one_note}
 use Rattle.rp_steps.proofs.Written.{Each-append}
 use Rattle.rp_stops.specs.Order as stops
@@ -39,6 +40,10 @@ use Rattle.rp_apply.proofs.Every.{Everywhere, copies, grown, mbr}
 use Rattle.rp_apply.proofs.Inside.{pieces_in, some_pieces, some_tree, tree_in}
 use Rattle.rp_apply.proofs.Parts.{OfRange, payload_each, zeros_each}
 use Rattle.rp_apply.proofs.Partners.{noted_at}
+
+flat-append : (xs ys : List (List Call)) → flat (xs ++ ys) ≡ flat xs ++ flat ys
+flat-append [] ys = refl
+flat-append (x ∷ xs) ys = ap (λ (l : List Call). x ++ (SyncCall ∷ l)) (flat-append xs ys) ∙ sym (append_assoc x (SyncCall ∷ flat xs) (flat ys))
 
 -- no source and no data row has a part in a step
 abbrev pub IsExact : Step → Type 0
@@ -115,13 +120,25 @@ module _ (plan : Plan) (outside : Outside) where
   some_call [] more some = absurd (omega arith)
   some_call (call ∷ calls) more some = refl
 
+  closed : (made : List Made) (front : List Found) (step : Step) (steps : List Step) → AreFound plan outside made front (step ∷ steps) → All InNewRows (step ∷ steps)
+      → flat (contents_blocks (all_calls plan front (step ∷ steps))) ≡ all_calls plan front (step ∷ steps) ++ SyncCall ∷ []
+  closed made [] step steps are each = absurd are
+  closed made (found ∷ founds) step steps are each =
+      some_call (calls_with plan found step) (all_calls plan founds steps) (All-head InNewRows step steps each made found are.0).1
+
   -- the phase of contents is one block, where it has steps
   block_is : (made : List Made) (founds : List Found) (steps : List Step) → AreFound plan outside made founds (synced (phase_of steps)) → All InNewRows steps
       → (body : List Call) × Each (IsInNewRow plan) body × (all_calls plan founds (synced (phase_of steps)) ≡ flat (contents_blocks body))
   unfolding calls_with calls_of
   block_is made [] [] are each = ([], tt, refl)
   block_is made (found ∷ founds) [] are each = absurd are
-  block_is made founds (step ∷ steps) are each = ?
+  block_is made founds (step ∷ steps) are each =
+      let r = split made founds (step ∷ steps) (Sync ∷ []) (subst (λ (l : List Step). AreFound plan outside made founds l) (append-nil ((step ∷ steps) ++ Sync ∷ [])) are) in
+      let body = all_calls plan r.front (step ∷ steps) in
+      (body, all_in made r.front (step ∷ steps) r.front_are each,
+      ap (all_calls plan founds) (append-nil ((step ∷ steps) ++ Sync ∷ [])) ∙ r.is
+      ∙ ap (λ (l : List Call). body ++ l) (exact_all (made ++ dones body) r.back (Sync ∷ []) r.back_are (All-cons IsExact Sync [] tt (All-nil IsExact)))
+      ∙ sym (closed made r.front step steps r.front_are each))
 
   module _ (seen : Seen) (formed : IsWellFormed seen plan) (fit : NotesFit plan) where
     abbrev Row_of : Noted → Type 0
@@ -172,8 +189,21 @@ module _ (plan : Plan) (outside : Outside) where
         All-cons InNewRows step _ one
         (zeros_each InNewRows (from_byte noted.0) (from_byte noted.0 + byte_count noted.0) (of_row noted new) _ _ (omega arith) (omega (arith, fits)))
 
+    new_is : (change : Change) → is_new change ≡ true → change ≡ New
+    new_is New is = refl
+    new_is Changed is = cc
+    new_is Same is = cc
+
+    kept : (rows : List Noted) → All Row_of rows → All NewRow (filter (λ noted. is_new noted.1.change) rows)
+    kept [] are = All-nil NewRow
+    kept (noted ∷ rows) are = by (is_new noted.1.change) refl (kept rows (All-tail Row_of noted rows are)) where
+      by : (b : Bool) → is_new noted.1.change ≡ b → All NewRow (filter (λ n. is_new n.1.change) rows)
+          → All NewRow (filter (λ n. is_new n.1.change) (noted ∷ rows))
+      by true is later = rw is (All-cons NewRow noted (filter (λ n. is_new n.1.change) rows) (All-head Row_of noted rows are, new_is noted.1.change is) later)
+      by false is later = rw is later
+
     new_are : All NewRow (new_rows plan)
-    new_are = ?
+    new_are = kept (noted_of plan) (are_rows seen plan formed)
 
     payload_rows : (rows : List Noted) → All NewRow rows → All InNewRows (flat_map (λ noted. payload_steps noted noted.1.role) rows)
     payload_rows [] are = All-nil InNewRows
@@ -192,9 +222,59 @@ module _ (plan : Plan) (outside : Outside) where
     unfolding contents_steps
     contents_in = All-append InNewRows _ _ (payload_rows (new_rows plan) new_are) (tree_rows (new_rows plan) new_are)
 
-    -- OPEN: `block_is` above; `new_are` (All-filter keeps `Row_of`; that the change is New is `is_new` true of a filtered row); then
-    -- pub are_calls_with : (made : List Made) (founds : List Found) → AreFound plan outside made founds (steps plan seen)
-    --     → (body : List Call) × AreCallsOf seen plan body (all_calls plan founds (steps plan seen))
-    -- by `split` three times as in `part_added`, `exact_all` for growth, copies and the MBR (`grown`, `copies`, `mbr` of Every with
-    -- `IsExact`), and `calls-synced`, `growth_as`, `copies_as`, `mbr_part`, `order_is` of rp_steps.proofs.Made, of which the first three
-    -- aren't public yet.
+    nowhere : Everywhere plan IsExact (λ noted. ⊥)
+    nowhere = record {
+      sync = tt;
+      grow = tt;
+      mbr = tt;
+      primary = (tt, tt, tt);
+      backup = (tt, tt, tt);
+      payload = λ noted no. absurd no;
+      tree = λ noted no. absurd no;
+    }
+
+    -- the four parts of the steps
+    parts_are : (made : List Made) (founds : List Found) (body : List Call) (g c k m : List Call) (order : List Which)
+        → g ≡ flat (stops.growth seen plan) → c ≡ flat (contents_blocks body) → k ≡ flat (stops.copies plan order)
+        → m ≡ flat (map (calls_of_steps plan nothing) (mbr_phases plan seen))
+        → ((g ++ c) ++ k) ++ m ≡ flat (stops.growth seen plan ++ (contents_blocks body ++ (stops.copies plan order ++ map (calls_of_steps plan nothing) (mbr_phases plan seen))))
+    parts_are made founds body g c k m order g_is c_is k_is m_is =
+        let x = stops.growth seen plan in
+        let y = contents_blocks body in
+        let z = stops.copies plan order in
+        let w = map (calls_of_steps plan nothing) (mbr_phases plan seen) in
+        rw (g_is, c_is, k_is, m_is)
+        (append_assoc (flat x ++ flat y) (flat z) (flat w) ∙ append_assoc (flat x) (flat y) (flat z ++ flat w)
+        ∙ sym (flat-append x (y ++ (z ++ w)) ∙ ap (λ (l : List Call). flat x ++ l) (flat-append y (z ++ w) ∙ ap (λ (l : List Call). flat y ++ l) (flat-append z w))))
+
+    pub are_calls_with : (made : List Made) (founds : List Found) → AreFound plan outside made founds (steps plan seen)
+        → (body : List Call) × AreCallsOf seen plan body (all_calls plan founds (steps plan seen))
+    unfolding steps phases growth
+    are_calls_with made founds are =
+        let order = written_copies plan seen in
+        let contents = phase_of (contents_steps plan) in
+        let one = part_added (growth plan seen) contents _ _ refl refl in
+        let two = part_added _ (flat_map copy_phases order) _ _ one refl in
+        let three = part_added _ (mbr_phases plan seen) _ _ two refl in
+        let last = split made founds ((synced (growth plan seen) ++ synced contents) ++ synced (flat_map copy_phases order)) (synced (mbr_phases plan seen))
+        (subst (λ (l : List Step). AreFound plan outside made founds l) (sym three) are) in
+        let next = split made last.front (synced (growth plan seen) ++ synced contents) (synced (flat_map copy_phases order)) last.front_are in
+        let first = split made next.front (synced (growth plan seen)) (synced contents) next.front_are in
+        let block = block_is _ first.back (contents_steps plan) first.back_are contents_in in
+        let g = exact_all made first.front (synced (growth plan seen)) first.front_are (grown IsExact plan (λ noted. ⊥) nowhere seen)
+        ∙ calls-synced plan nothing (growth plan seen) ∙ ap flat (growth_as plan nothing (512 * plan.target) (ltb seen.sectors plan.target)) in
+        let k = exact_all _ next.back (synced (flat_map copy_phases order)) next.back_are (copies IsExact plan (λ noted. ⊥) nowhere order)
+        ∙ calls-synced plan nothing (flat_map copy_phases order) ∙ ap flat (copies_as plan nothing order) in
+        let m = exact_all _ last.back (synced (mbr_phases plan seen)) last.back_are (mbr IsExact plan (λ noted. ⊥) nowhere seen)
+        ∙ calls-synced plan nothing (mbr_phases plan seen) in
+        (block.0, record {
+          order = order;
+          mbr = map (calls_of_steps plan nothing) (mbr_phases plan seen);
+          ordered = order_is seen plan;
+          mbr_part = mbr_part plan nothing seen;
+          inside = block.1;
+          are = ap (all_calls plan founds) (sym three) ∙ last.is
+              ∙ ap (λ (l : List Call). l ++ all_calls plan last.back (synced (mbr_phases plan seen)))
+              (next.is ∙ ap (λ (l : List Call). l ++ all_calls plan next.back (synced (flat_map copy_phases order))) first.is)
+              ∙ parts_are made founds block.0 _ _ _ _ order g block.2 k m;
+        })

@@ -1,5 +1,7 @@
+pub mod Anyhow
 pub mod Can
 pub mod Every
+pub mod Inside
 pub mod Laid
 pub mod Made
 pub mod Named

@@ -28,7 +28,7 @@ module _ (plan : Plan) (outside : Outside) where
       ap (λ (l : List Call). calls_with plan f x ++ l) (all_calls-append (made ++ dones (calls_with plan f x)) fs gs xs ys are.1)
       ∙ sym (append_assoc (calls_with plan f x) (all_calls plan fs xs) (all_calls plan gs ys))
 
-  dones_more : (made : List Made) (calls more : List Call) → made ++ dones (calls ++ more) ≡ (made ++ dones calls) ++ dones more
+  pub dones_more : (made : List Made) (calls more : List Call) → made ++ dones (calls ++ more) ≡ (made ++ dones calls) ++ dones more
   dones_more made calls more =
       ap (λ (l : List Made). made ++ l) (dones-append calls more) ∙ sym (append_assoc made (dones calls) (dones more))
 
