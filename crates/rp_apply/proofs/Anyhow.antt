@@ -19,7 +19,7 @@ use Rattle.rp_disk.specs.Made.{Made, dones}
 use Rattle.rp_disk.specs.Stops.{Each}
 use Rattle.rp_disk.specs.declared.call.Call.{Call}
 use Rattle.rp_disk.specs.declared.call.Call.TheVariants.{Write, SetLen, Sync as SyncCall}
-use Rattle.rp_disk.proofs.Blocks.{Each-imp}
+use Rattle.rp_disk.proofs.Blocks.{Each-imp, flat-append}
 use Rattle.rp_step.specs.Found.{AreFound, Found, IsFound, Outside, all_calls, calls_with}
 use Rattle.rp_step.proofs.Going.{all_calls-append, dones_more}
 use Rattle.rp_steps.specs.Calls.{calls_of, calls_of_steps, in_pieces}
@@ -40,10 +40,6 @@ use Rattle.rp_apply.proofs.Every.{Everywhere, copies, grown, mbr}
 use Rattle.rp_apply.proofs.Inside.{pieces_in, some_pieces, some_tree, tree_in}
 use Rattle.rp_apply.proofs.Parts.{OfRange, payload_each, zeros_each}
 use Rattle.rp_apply.proofs.Partners.{noted_at}
-
-flat-append : (xs ys : List (List Call)) → flat (xs ++ ys) ≡ flat xs ++ flat ys
-flat-append [] ys = refl
-flat-append (x ∷ xs) ys = ap (λ (l : List Call). x ++ (SyncCall ∷ l)) (flat-append xs ys) ∙ sym (append_assoc x (SyncCall ∷ flat xs) (flat ys))
 
 -- no source and no data row has a part in a step
 abbrev pub IsExact : Step → Type 0

@@ -1,5 +1,6 @@
 pub mod Anyhow
 pub mod Can
+pub mod Ending
 pub mod Every
 pub mod Inside
 pub mod Laid
@@ -7,3 +8,4 @@ pub mod Made
 pub mod Named
 pub mod Partners
 pub mod Parts
+pub mod Roots

@@ -19,7 +19,7 @@ use Rattle.rp_stops.specs.Honest.{IsTornHonest}
 use Rattle.rp_stops.specs.Plans.{IsPlanFor, StopsAlone}
 use Rattle.rp_stops.specs.Rows.{Contents, Fills, IsInNewRow, grown}
 use Rattle.rp_disk.specs.Stops.{Each}
-use Rattle.rp_steps.specs.Calls.{calls}
+use Rattle.rp_steps.specs.Calls.{calls, contents_calls}
 use Rattle.rp_steps.specs.Contents.{Sources, contents, payload_at}
 use Rattle.rp_steps.specs.Steps.{byte_of_slot}
 use Rattle.rp_verity.specs.Filled.{cut}
@@ -84,10 +84,12 @@ EndsFinal ready files first old new = IfSome first (λ bytes.
     × IsSettled (history_of bytes new))
 
 -- where the plan fits the image, and nothing was pending: an image that a stop at any moment since might have left, and that
--- has no torn header which passes its checksum by chance, shows the old table or the goal, and each old row holds its old bytes
-abbrev pub AnyMomentIsSafe : Ready → Option (List ℕ) → List Made → List Made → Type 0
-AnyMomentIsSafe ready first old new = IfSome first (λ bytes.
+-- has no torn header which passes its checksum by chance, shows the old table or the goal, and each old row holds its old bytes; where
+-- the sources tell, the new rows hold their contents where the goal is shown (the image is safe)
+abbrev pub AnyMomentIsSafe : Ready → Option (List Stored) → Option (List ℕ) → List Made → List Made → Type 0
+AnyMomentIsSafe ready told first old new = IfSome first (λ bytes.
     (sector : ℕ) (empty : Empty) → IsPlanFor sector (shown (history_of bytes old)) empty ready.seen ready.plan → IsSettled (history_of bytes old)
-    → (body : List Call) × Each (IsInNewRow ready.plan) body × ((made : List Call) (image : List ℕ)
+    → (body : List Call) × Each (IsInNewRow ready.plan) body
+    × IfSome told (λ files. body ≡ contents_calls ready.plan (sources_of ready files)) × ((made : List Call) (image : List ℕ)
     → LeftSince (history_of bytes new) (moment (history_of bytes old)) made image → IsTornHonest sector (shown (history_of bytes old)) made image
     → StopsAlone sector (shown (history_of bytes old)) ready.seen ready.plan body image))

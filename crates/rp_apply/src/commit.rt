@@ -47,7 +47,7 @@ pub fn commit<D: Disk, S: Sources>(
     ensures ended { IfSome (S.told sources.old) (λ files. OnOk result (EndsFinal ready files (D.first disk.old) (D.calls disk.old) (D.calls disk.new))) }
 
     // Whatever the sources do.
-    ensures any_moment { AnyMomentIsSafe ready (D.first disk.old) (D.calls disk.old) (D.calls disk.new) }
+    ensures any_moment { AnyMomentIsSafe ready (S.told sources.old) (D.first disk.old) (D.calls disk.old) (D.calls disk.new) }
 {
     carry_out(ready, disk, sources)
 }

@@ -76,7 +76,7 @@ module _ (plan : Plan) (outside : Outside) (files : List Stored) (first : List �
   tied made found Sync is laid = refl
 
   -- the image on which a step was done
-  shown_after : (made : List Made) (calls : List Call) → shown (history_of first (made ++ dones calls)) ≡ all_done (shown (history_of first made)) calls
+  pub shown_after : (made : List Made) (calls : List Call) → shown (history_of first (made ++ dones calls)) ≡ all_done (shown (history_of first made)) calls
   shown_after made calls = ap shown (history_of-dones first made calls) ∙ shown-all_did (history_of first made) calls
 
   pub all_tied : (made : List Made) (founds : List Found) (steps : List Step) → AreFound plan outside made founds steps
