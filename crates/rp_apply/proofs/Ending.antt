@@ -9,6 +9,7 @@ use Rattle.rp_disk.specs.Calls.{all_done}
 use Rattle.rp_disk.specs.History.{History, IsSettled, LeftSince, all_did, moment, shown}
 use Rattle.rp_disk.specs.Made.{Made, dones, history_of}
 use Rattle.rp_disk.specs.Runs.{Runs}
+use Rattle.rp_disk.specs.Stops.{Each}
 use Rattle.rp_disk.specs.declared.call.Call.{Call}
 use Rattle.rp_disk.specs.declared.call.Call.TheVariants.{Sync}
 use Rattle.rp_disk.proofs.Runs.{all_did-append, history_of-dones, run_any_moment, settled-all_did, shown-all_did}
@@ -81,3 +82,22 @@ module _ (seen : Seen) (plan : Plan) (formed : IsWellFormed seen plan) (fit : No
       let all = all_calls plan founds (steps plan seen) in
       let are = are_calls_with plan (outside_of told paths (Some first)) seen formed fit old founds makes.found_are in
       (are.0, are.1, any_moment sector first empty seen plan are.0 all old new (run_any_moment result (Some first) old new all makes.ran) settled is are.1)
+
+  -- with the plan's own calls where the sources tell
+  pub any_safe : {T : Type 0} (told : Option (List Stored)) (paths : List (List ℕ)) (first : List ℕ) (founds : List Found) (old new : List Made)
+      (result : Result T ApplyFault) (sector : ℕ) (empty : Empty) → MakesSteps plan (outside_of told paths (Some first)) (steps plan seen) founds old new result
+      → IsPlanFor sector (shown (history_of first old)) empty seen plan → IsSettled (history_of first old)
+      → (body : List Call) × Each (IsInNewRow plan) body × IfSome told (λ files. body ≡ contents_calls plan (sources_in files paths))
+      × ((made : List Call) (image : List ℕ) → LeftSince (history_of first new) (moment (history_of first old)) made image
+      → IsTornHonest sector (shown (history_of first old)) made image → StopsAlone sector (shown (history_of first old)) seen plan body image)
+  any_safe None paths first founds old new result sector empty makes is settled =
+      let a = any_moment_with None paths first founds old new result sector empty makes is settled in
+      (a.0, a.1.inside, tt, a.2)
+  any_safe (Some files) paths first founds old new result sector empty makes is settled =
+      let sources = sources_in files paths in
+      let body = contents_calls plan sources in
+      let all = calls plan seen sources in
+      let are = are_calls seen plan sources formed fit in
+      let long = (plan-given sector (shown (history_of first old)) empty seen plan is).seen_of.len in
+      let runs = planned_runs paths files first founds old new result makes long in
+      (body, are.inside, refl, any_moment sector first empty seen plan body all old new (run_any_moment result (Some first) old new all runs) settled is are)
