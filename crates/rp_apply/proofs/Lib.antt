@@ -3,6 +3,7 @@ pub mod Can
 pub mod Ending
 pub mod Every
 pub mod Inside
+pub mod Judging
 pub mod Laid
 pub mod Made
 pub mod Named

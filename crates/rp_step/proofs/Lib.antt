@@ -1,5 +1,6 @@
 pub mod Going
 pub mod Kept
+pub mod Lengths
 pub mod Leveled
 pub mod Single
 pub mod Tied
