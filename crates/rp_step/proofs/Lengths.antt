@@ -14,6 +14,7 @@ use Rattle.rp_disk.specs.declared.call.Call.TheVariants.{Write}
 use Rattle.rp_disk.proofs.Agreeing.{length-resized}
 use Rattle.rp_disk.proofs.Runs.{history_of-dones, shown-all_did}
 use Rattle.rp_format.specs.Written.{tree_calls}
+use Rattle.rp_format.proofs.Kept.{writes-are}
 use Rattle.rp_format.proofs.Told.{IsWrite, SameLength, same_length}
 use Rattle.rp_steps.specs.Calls.{calls_of, in_pieces, tree_writes}
 use Rattle.rp_steps.specs.Writes.{piece, pieces}
@@ -31,13 +32,9 @@ pieces-are : (at : ℕ) (bytes : List ℕ) → Each IsWrite (in_pieces at bytes)
 unfolding in_pieces
 pieces-are at bytes = Each-map IsWrite (λ k. Write (at + piece * k) (bytes_at bytes (piece * k) piece)) 0 (pieces (length bytes)) (λ j low high. refl)
 
-puts-are : (hash_at : ℕ) (puts : List (ℕ × List ℕ)) → Each IsWrite (map (λ put. Write (hash_at + 4096 * (1 + put.0)) put.1) puts)
-puts-are hash_at [] = tt
-puts-are hash_at (put ∷ puts) = (refl, puts-are hash_at puts)
-
 tree-are : (hash_at blocks : ℕ) (tree : List (List ℕ)) → Each IsWrite (tree_writes hash_at blocks tree)
 unfolding tree_writes
-tree-are hash_at blocks tree = puts-are hash_at (placed tree (order blocks))
+tree-are hash_at blocks tree = writes-are hash_at (placed tree (order blocks))
 
 -- writes keep the length
 kept : (first : List ℕ) (old new : List Made) (calls : List Call) → new ≡ old ++ dones calls → Each IsWrite calls
