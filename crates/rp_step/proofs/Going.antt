@@ -90,7 +90,7 @@ module _ (plan : Plan) (outside : Outside) where
     pub made : now ≡ old ++ dones (all_calls plan founds steps)
     pub roots : HaveRoots founds steps
 
-  pub AreSoFar : List Step → List Made → List Made → Type 0
+  abbrev pub AreSoFar : List Step → List Made → List Made → Type 0
   AreSoFar steps old now = (founds : List Found) × SoFar steps founds old now
 
   pub so_far_none : (old : List Made) → AreSoFar [] old old

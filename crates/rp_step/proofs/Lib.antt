@@ -1,3 +1,4 @@
+pub mod Arms
 pub mod Going
 pub mod Kept
 pub mod Lengths

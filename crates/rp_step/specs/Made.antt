@@ -1,13 +1,12 @@
 -- What making steps makes of a disk: own rules.
-use Rattle.std.specs.Prelude.{ℕ, ◌≡◌, ◌≢◌, ◌++◌, List, [], Option, Some, None, Result, Ok, Err, IfErr, OnOk, ⊤}
+use Rattle.std.specs.Prelude.{ℕ, ◌≡◌, ◌≢◌, ◌++◌, List, [], Result, IfErr, OnOk, ⊤}
 use Rattle.rp_base.specs.declared.plan.Plan.{Plan}
-use Rattle.rp_base.specs.declared.faults.Failed.{Failed}
 use Rattle.rp_disk.specs.Made.{Made, dones}
 use Rattle.rp_disk.specs.Runs.{Runs}
 use Rattle.rp_format.specs.Written.{hash_calls}
 use Rattle.rp_step.specs.Found.{Found, IsFound, Outside, calls_with, tree_of}
 use Rattle.rp_step.specs.declared.fault.ApplyFault.{ApplyFault}
-use Rattle.rp_step.specs.declared.fault.ApplyFault.TheVariants.{DiskFault, SourceChanged}
+use Rattle.rp_step.specs.declared.fault.ApplyFault.TheVariants.{SourceChanged}
 use Rattle.rp_steps.specs.declared.step.Step.{Step}
 use Rattle.rp_steps.specs.declared.step.Step.TheVariants.{Tree}
 use Rattle.rp_verity.specs.Tree.{root_hash}
@@ -37,9 +36,3 @@ pub record MakesStep {T : Type 0} (plan : Plan) (outside : Outside) (step : Step
   pub ran : Runs old (calls_with plan found step) new result
   pub root : OnOk result (HasRoot found step)
   pub changed : IfErr result (λ fault. IfChanged fault (λ planned copied. HasOtherRoot found planned copied old new step))
-
--- the answer for what writing a tree answered
-abbrev pub judged : Result (Option (List ℕ)) Failed → List ℕ → Result (Unit {0}) ApplyFault
-judged (Ok None) planned = Ok tt
-judged (Ok (Some copied)) planned = Err (SourceChanged planned copied)
-judged (Err failed) planned = Err DiskFault

@@ -1,4 +1,5 @@
-ghost use Rattle.std.specs.Prelude.{◌≡◌, Ok, Err, OnOk, OnErr};
+ghost use Rattle.std.specs.Prelude.{◌≡◌};
+ghost use Rattle.rp_step.specs.Answers.{from_disk, from_fill, from_tree};
 
 use rp_base::Failed;
 use rp_fill::FillFault;
@@ -16,10 +17,9 @@ pub enum ApplyFault {
     SourceChanged { planned: [u8; 32], copied: [u8; 32] },
 }
 
-// The answer of the disk.
+// The answer for that of the disk.
 pub fn of_disk(answer: Result<(), Failed>) -> Result<(), ApplyFault>
-    ensures ok { OnOk answer (result ≡ Ok ()) }
-    ensures err { OnErr answer (result ≡ Err ApplyFault.DiskFault) }
+    ensures { result ≡ from_disk answer }
 {
     match answer {
         Ok(()) => Ok(()),
@@ -27,15 +27,27 @@ pub fn of_disk(answer: Result<(), Failed>) -> Result<(), ApplyFault>
     }
 }
 
-// The answer of copying.
+// The answer for that of copying.
 pub fn of_fill(answer: Result<(), FillFault>) -> Result<(), ApplyFault>
-    ensures ok { OnOk answer (result ≡ Ok ()) }
-    ensures disk { answer ≡ Err FillFault.Disk → result ≡ Err ApplyFault.DiskFault }
-    ensures source { answer ≡ Err FillFault.Source → result ≡ Err ApplyFault.SourceFault }
+    ensures { result ≡ from_fill answer }
 {
     match answer {
         Ok(()) => Ok(()),
         Err(FillFault::Disk) => Err(ApplyFault::DiskFault),
         Err(FillFault::Source) => Err(ApplyFault::SourceFault),
+    }
+}
+
+// The answer for that of writing a tree that is planned with a root hash.
+pub fn of_tree(
+    answer: Result<Option<[u8; 32]>, Failed>,
+    planned: [u8; 32],
+) -> Result<(), ApplyFault>
+    ensures { result ≡ from_tree answer planned }
+{
+    match answer {
+        Ok(None) => Ok(()),
+        Ok(Some(copied)) => Err(ApplyFault::SourceChanged { planned, copied }),
+        Err(Failed) => Err(ApplyFault::DiskFault),
     }
 }

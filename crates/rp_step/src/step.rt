@@ -6,14 +6,14 @@ ghost use Rattle.rp_disk.specs.History.{shown};
 ghost use Rattle.rp_disk.specs.Made.{history_told};
 ghost use Rattle.rp_disk.specs.Runs.{Runs};
 ghost use Rattle.rp_step.specs.Causes.{HasDiskCause, HasSourceCause};
-ghost use Rattle.rp_step.specs.Found.{CanMake, Found, HasFile, IsFixed, LiesIn, calls_with, nothing_found, outside_of, tree_of};
-ghost use Rattle.rp_step.specs.Made.{MakesStep, judged as judged_by};
+ghost use Rattle.rp_step.specs.Found.{CanMake, Found, HasFile, IsFixed, LiesIn, calls_with, nothing_found, outside_of};
+ghost use Rattle.rp_step.specs.Made.{MakesStep};
 ghost use Rattle.rp_step.specs.Stocked.{IsStocked};
 
 use crate::ApplyFault;
 use crate::contents::{copy, tree, zero};
 use crate::copies::{array, header};
-use crate::fault::{of_disk, of_fill};
+use crate::fault::{of_disk, of_fill, of_tree};
 use crate::paths::path;
 use rp_base::{Failed, List, Plan, Text, Which};
 use rp_copies::{close_header, write_mbr};
@@ -66,20 +66,9 @@ pub fn make_step<D: Disk, S: Sources>(
                 uuid,
                 root,
             };
-            judged(tree(disk, blocks, &plan), root)
+            of_tree(tree(disk, blocks, &plan), root)
         }
         _ => of_disk(make_fixed(disk, plan, blocks, step)),
-    }
-}
-
-// The answer of a tree.
-fn judged(answer: Result<Option<[u8; 32]>, Failed>, planned: [u8; 32]) -> Result<(), ApplyFault>
-    ensures { result ≡ judged_by answer planned }
-{
-    match answer {
-        Ok(None) => Ok(()),
-        Ok(Some(copied)) => Err(ApplyFault::SourceChanged { planned, copied }),
-        Err(Failed) => Err(ApplyFault::DiskFault),
     }
 }
 
