@@ -130,11 +130,13 @@ module _ (plan : Plan) (outside : Outside) where
   block_is made (found ∷ founds) [] are each = absurd are
   block_is made founds (step ∷ steps) are each =
       let r = split made founds (step ∷ steps) (Sync ∷ []) (subst (λ (l : List Step). AreFound plan outside made founds l) (append-nil ((step ∷ steps) ++ Sync ∷ [])) are) in
-      let body = all_calls plan r.front (step ∷ steps) in
-      (body, all_in made r.front (step ∷ steps) r.front_are each,
-      ap (all_calls plan founds) (append-nil ((step ∷ steps) ++ Sync ∷ [])) ∙ r.is
-      ∙ ap (λ (l : List Call). body ++ l) (exact_all (made ++ dones body) r.back (Sync ∷ []) r.back_are (All-cons IsExact Sync [] tt (All-nil IsExact)))
-      ∙ sym (closed made r.front step steps r.front_are each))
+      let body = all_calls plan r.front (step ∷ steps) in (
+        body,
+        all_in made r.front (step ∷ steps) r.front_are each,
+        ap (all_calls plan founds) (append-nil ((step ∷ steps) ++ Sync ∷ [])) ∙ r.is
+            ∙ ap (λ (l : List Call). body ++ l) (exact_all (made ++ dones body) r.back (Sync ∷ []) r.back_are (All-cons IsExact Sync [] tt (All-nil IsExact)))
+            ∙ sym (closed made r.front step steps r.front_are each),
+      )
 
   module _ (seen : Seen) (formed : IsWellFormed seen plan) (fit : NotesFit plan) where
     abbrev Row_of : Noted → Type 0
@@ -151,13 +153,17 @@ module _ (plan : Plan) (outside : Outside) where
     unfolding calls_with calls_of
     of_row noted new = record {
       zero = λ at len some from to made found is.
-          let long = length-replicate {A = ℕ} len 0 in
-          (Each-imp (IsInside noted.0) (IsInNewRow plan) (in_new noted new) (in_pieces at (replicate len 0))
-          (pieces_in noted.0 at (replicate len 0) from (omega (arith, long, to))), some_pieces at (replicate len 0) (omega (arith, long, some)));
+          let long = length-replicate {A = ℕ} len 0 in (
+            Each-imp (IsInside noted.0) (IsInNewRow plan) (in_new noted new) (in_pieces at (replicate len 0))
+                (pieces_in noted.0 at (replicate len 0) from (omega (arith, long, to))),
+            some_pieces at (replicate len 0) (omega (arith, long, some)),
+          );
       copy = λ file at len some from to made found is.
-          let long = is.size in
-          (Each-imp (IsInside noted.0) (IsInNewRow plan) (in_new noted new) (in_pieces at found.bytes)
-          (pieces_in noted.0 at found.bytes from (omega (arith, long, to))), some_pieces at found.bytes (omega (arith, long, some)));
+          let long = is.size in (
+            Each-imp (IsInside noted.0) (IsInNewRow plan) (in_new noted new) (in_pieces at found.bytes)
+                (pieces_in noted.0 at found.bytes from (omega (arith, long, to))),
+            some_pieces at found.bytes (omega (arith, long, some)),
+          );
     }
 
     role_fits : (noted : Noted) → Row_of noted → RoleFits noted.1.role
@@ -177,10 +183,11 @@ module _ (plan : Plan) (outside : Outside) where
         let fields : RoleFits (Hash partner blocks salt uuid root) = subst RoleFits is (role_fits noted new.0) in
         let from = byte_of_slot plan.goal.rows partner in
         let step = Tree from (from_byte noted.0) blocks salt uuid root in
-        let one : InNewRows step = λ made found found_is.
-        (Each-imp (IsInside noted.0) (IsInNewRow plan) (in_new noted new) (calls_with plan found step)
-        (tree_in noted.0 from blocks salt uuid root found.blocks found_is.0 room.0 room.2 fields.1 fields.0),
-        some_tree from (from_byte noted.0) blocks salt uuid root found.blocks) in
+        let one : InNewRows step = λ made found found_is. (
+          Each-imp (IsInside noted.0) (IsInNewRow plan) (in_new noted new) (calls_with plan found step)
+              (tree_in noted.0 from blocks salt uuid root found.blocks found_is.0 room.0 room.2 fields.1 fields.0),
+          some_tree from (from_byte noted.0) blocks salt uuid root found.blocks,
+        ) in
         let fits = room.2 in
         All-cons InNewRows step _ one
         (zeros_each InNewRows (from_byte noted.0) (from_byte noted.0 + byte_count noted.0) (of_row noted new) _ _ (omega arith) (omega (arith, fits)))
@@ -262,15 +269,17 @@ module _ (plan : Plan) (outside : Outside) where
         let k = exact_all _ next.back (synced (flat_map copy_phases order)) next.back_are (copies IsExact plan (λ noted. ⊥) nowhere order)
         ∙ calls-synced plan nothing (flat_map copy_phases order) ∙ ap flat (copies_as plan nothing order) in
         let m = exact_all _ last.back (synced (mbr_phases plan seen)) last.back_are (mbr IsExact plan (λ noted. ⊥) nowhere seen)
-        ∙ calls-synced plan nothing (mbr_phases plan seen) in
-        (block.0, record {
-          order = order;
-          mbr = map (calls_of_steps plan nothing) (mbr_phases plan seen);
-          ordered = order_is seen plan;
-          mbr_part = mbr_part plan nothing seen;
-          inside = block.1;
-          are = ap (all_calls plan founds) (sym three) ∙ last.is
-              ∙ ap (λ (l : List Call). l ++ all_calls plan last.back (synced (mbr_phases plan seen)))
-              (next.is ∙ ap (λ (l : List Call). l ++ all_calls plan next.back (synced (flat_map copy_phases order))) first.is)
-              ∙ parts_are made founds block.0 _ _ _ _ order g block.2 k m;
-        })
+        ∙ calls-synced plan nothing (mbr_phases plan seen) in (
+          block.0,
+          record {
+            order = order;
+            mbr = map (calls_of_steps plan nothing) (mbr_phases plan seen);
+            ordered = order_is seen plan;
+            mbr_part = mbr_part plan nothing seen;
+            inside = block.1;
+            are = ap (all_calls plan founds) (sym three) ∙ last.is
+                ∙ ap (λ (l : List Call). l ++ all_calls plan last.back (synced (mbr_phases plan seen)))
+                (next.is ∙ ap (λ (l : List Call). l ++ all_calls plan next.back (synced (flat_map copy_phases order))) first.is)
+                ∙ parts_are made founds block.0 _ _ _ _ order g block.2 k m;
+          },
+        )

@@ -66,10 +66,11 @@ module _ (seen : Seen) (plan : Plan) (formed : IsWellFormed seen plan) (fit : No
       let are = are_calls seen plan sources formed fit in
       let now : history_of first new ≡ all_did h all = ap (history_of first) done ∙ history_of-dones first old all in
       let there = final (shown h) seen plan given (contents_calls plan sources) all are (contents plan sources (grown (shown h) plan))
-      (fills seen plan sources (shown h) formed fit given.seen_of.len) in
-      (subst (λ (image : List ℕ). IsFinal (shown h) seen plan (contents plan sources (grown (shown h) plan)) image)
-      (sym (ap shown now ∙ shown-all_did h all)) there,
-      subst IsSettled (sym (now ∙ ap (all_did h) are.are)) (settled_flat h _ settled))
+      (fills seen plan sources (shown h) formed fit given.seen_of.len) in (
+        subst (λ (image : List ℕ). IsFinal (shown h) seen plan (contents plan sources (grown (shown h) plan)) image)
+            (sym (ap shown now ∙ shown-all_did h all)) there,
+        subst IsSettled (sym (now ∙ ap (all_did h) are.are)) (settled_flat h _ settled),
+      )
 
   -- at any moment, whatever the sources do
   pub any_moment_with : {T : Type 0} (told : Option (List Stored)) (paths : List (List ℕ)) (first : List ℕ) (founds : List Found) (old new : List Made)

@@ -73,17 +73,20 @@ module _ (plan : Plan) (sources : Sources) where
   -- steps without a tree
   pub laid_none : (image : List ℕ) (steps : List Step) → All IsNoTree steps → AreLaid plan sources image steps
   laid_none image [] none = tt
-  laid_none image (step ∷ steps) none =
-      (laid_one image step (All-head IsNoTree step steps none),
-      laid_none (all_done image (calls_of plan sources step)) steps (All-tail IsNoTree step steps none))
+  laid_none image (step ∷ steps) none = (
+    laid_one image step (All-head IsNoTree step steps none),
+    laid_none (all_done image (calls_of plan sources step)) steps (All-tail IsNoTree step steps none),
+  )
 
   -- steps behind others
   pub laid_both : (image : List ℕ) (xs ys : List Step) → AreLaid plan sources image xs
       → AreLaid plan sources (all_done image (calls_of_steps plan sources xs)) ys → AreLaid plan sources image (xs ++ ys)
   laid_both image [] ys laid more = more
-  laid_both image (step ∷ xs) ys laid more =
-      (laid.0, laid_both (all_done image (calls_of plan sources step)) xs ys laid.1
-      (subst (λ (i : List ℕ). AreLaid plan sources i ys) (all_done-append image (calls_of plan sources step) (calls_of_steps plan sources xs)) more))
+  laid_both image (step ∷ xs) ys laid more = (
+    laid.0,
+    laid_both (all_done image (calls_of plan sources step)) xs ys laid.1
+        (subst (λ (i : List ℕ). AreLaid plan sources i ys) (all_done-append image (calls_of plan sources step) (calls_of_steps plan sources xs)) more),
+  )
 
   -- the steps of rows that hold trees, and their calls
   abbrev trees_of : List Noted → List Step
@@ -236,10 +239,13 @@ module _ (plan : Plan) (sources : Sources) where
         let held = held_now base image (noted ∷ rows) under noted.1.slot p.pair.payload_role.0 are will u p.pair.payload_role.1 p.pair.new.0 in
         let fits = row_inside under u in
         let there : payload_at plan sources (from_byte under.0) ≡ payload sources under =
-        subst (λ (n : Noted). payload_at plan sources (from_byte n.0) ≡ payload sources n) p.is (payload_of_row seen plan formed sources p.place under p.below) in
-        ((omega (arith, at, p.whole, fits, will.long),
-        ap (cut blocks) (ap₂ (λ (a n : ℕ). bytes_at image a n) at p.whole ∙ held ∙ sym there ∙ ap (payload_at plan sources) (sym at))),
-        laid_none plan sources _ _ (zeros_each IsNoTree 0 (from_byte noted.0 + byte_count noted.0 + 4096 * hash_blocks blocks) (no_tree _ _) _ _ (omega arith) (omega arith)))
+        subst (λ (n : Noted). payload_at plan sources (from_byte n.0) ≡ payload sources n) p.is (payload_of_row seen plan formed sources p.place under p.below) in (
+          (
+            omega (arith, at, p.whole, fits, will.long),
+            ap (cut blocks) (ap₂ (λ (a n : ℕ). bytes_at image a n) at p.whole ∙ held ∙ sym there ∙ ap (payload_at plan sources) (sym at)),
+          ),
+          laid_none plan sources _ _ (zeros_each IsNoTree 0 (from_byte noted.0 + byte_count noted.0 + 4096 * hash_blocks blocks) (no_tree _ _) _ _ (omega arith) (omega arith)),
+        )
 
     trees_laid : (base image : List ℕ) (rows : List Noted) → All Row_of rows → WillHold base image rows → AreLaid plan sources image (trees_of rows)
     trees_laid base image [] are will = tt

@@ -114,27 +114,33 @@ pub tree_made : (plan : Plan) (outside : Outside) (data_at hash_at blocks : ℕ)
     (answer : Result (Option (List ℕ)) Failed) → WritesTree (tree_of data_at hash_at blocks salt uuid root) outside.first old new answer
     → (found : Found) × MakesStep plan outside (Tree data_at hash_at blocks salt uuid root) found old new (from_tree answer root)
 unfolding calls_with
-tree_made plan outside data_at hash_at blocks salt uuid root old new (Ok None) wrote =
-    (record { bytes = []; blocks = wrote.0 }, record {
-      found_is = (wrote.1, wrote.2);
-      ran = record { ok = wrote.3.done.0; err = tt };
-      root = wrote.3.done.1;
-      changed = tt;
-    })
+tree_made plan outside data_at hash_at blocks salt uuid root old new (Ok None) wrote = (
+  record { bytes = []; blocks = wrote.0 },
+  record {
+    found_is = (wrote.1, wrote.2);
+    ran = record { ok = wrote.3.done.0; err = tt };
+    root = wrote.3.done.1;
+    changed = tt;
+  },
+)
 tree_made plan outside data_at hash_at blocks salt uuid root old new (Ok (Some copied)) wrote =
     let tree = tree_of data_at hash_at blocks salt uuid root in
     let hashes = hash_calls tree wrote.0 in
-    let done = wrote.3.done in
-    (record { bytes = []; blocks = wrote.0 }, record {
-      found_is = (wrote.1, wrote.2);
-      ran = record { ok = tt; err = broke_before old new hashes (Write hash_at (superblock uuid blocks salt)) (dones hashes, are_all hashes, done.0) };
-      root = tt;
-      changed = (refl, done.1, done.2, done.0);
-    })
-tree_made plan outside data_at hash_at blocks salt uuid root old new (Err failed) wrote =
-    (record { bytes = []; blocks = wrote.0 }, record {
-      found_is = (wrote.1, wrote.2);
-      ran = record { ok = tt; err = wrote.3.failed };
-      root = tt;
-      changed = tt;
-    })
+    let done = wrote.3.done in (
+      record { bytes = []; blocks = wrote.0 },
+      record {
+        found_is = (wrote.1, wrote.2);
+        ran = record { ok = tt; err = broke_before old new hashes (Write hash_at (superblock uuid blocks salt)) (dones hashes, are_all hashes, done.0) };
+        root = tt;
+        changed = (refl, done.1, done.2, done.0);
+      },
+    )
+tree_made plan outside data_at hash_at blocks salt uuid root old new (Err failed) wrote = (
+  record { bytes = []; blocks = wrote.0 },
+  record {
+    found_is = (wrote.1, wrote.2);
+    ran = record { ok = tt; err = wrote.3.failed };
+    root = tt;
+    changed = tt;
+  },
+)

@@ -53,9 +53,11 @@ module _ (plan : Plan) (outside : Outside) where
   AreFound-append made [] gs [] ys are then = subst (λ (l : List Made). AreFound plan outside l gs ys) (append-nil made) then
   AreFound-append made [] gs (x ∷ xs) ys are then = absurd are
   AreFound-append made (f ∷ fs) gs [] ys are then = absurd are
-  AreFound-append made (f ∷ fs) gs (x ∷ xs) ys are then =
-      (are.0, AreFound-append (made ++ dones (calls_with plan f x)) fs gs xs ys are.1
-      (subst (λ (l : List Made). AreFound plan outside l gs ys) (dones_more made (calls_with plan f x) (all_calls plan fs xs)) then))
+  AreFound-append made (f ∷ fs) gs (x ∷ xs) ys are then = (
+    are.0,
+    AreFound-append (made ++ dones (calls_with plan f x)) fs gs xs ys are.1
+        (subst (λ (l : List Made). AreFound plan outside l gs ys) (dones_more made (calls_with plan f x) (all_calls plan fs xs)) then),
+  )
 
   -- whatever there is, steps find something
   pub rest_found : (made : List Made) (steps : List Step) → (founds : List Found) × AreFound plan outside made founds steps
@@ -81,8 +83,11 @@ module _ (plan : Plan) (outside : Outside) where
   stops_behind made new [] gs (x ∷ xs) ys planned copied are roots stops = absurd are
   stops_behind made new (f ∷ fs) gs [] ys planned copied are roots stops = absurd are
   stops_behind made new (f ∷ fs) gs (x ∷ xs) ys planned copied are roots stops =
-      inr (roots.0, stops_behind (made ++ dones (calls_with plan f x)) new fs gs xs ys planned copied are.1 roots.1
-      (subst (λ (l : List Made). StopsAtRoot plan gs planned copied l new ys) (dones_more made (calls_with plan f x) (all_calls plan fs xs)) stops))
+      inr (
+        roots.0,
+        stops_behind (made ++ dones (calls_with plan f x)) new fs gs xs ys planned copied are.1 roots.1
+            (subst (λ (l : List Made). StopsAtRoot plan gs planned copied l new ys) (dones_more made (calls_with plan f x) (all_calls plan fs xs)) stops),
+      )
 
   -- so many steps were made
   pub record SoFar (steps : List Step) (founds : List Found) (old now : List Made) : Type 0 where
@@ -105,13 +110,15 @@ module _ (plan : Plan) (outside : Outside) where
       let calls = calls_with plan found step in
       let one : all_calls plan (found ∷ []) (step ∷ []) ≡ calls = append-nil calls in
       let whole : all_calls plan (fs ++ found ∷ []) (steps ++ step ∷ []) ≡ all_calls plan fs steps ++ calls =
-      all_calls-append old fs (found ∷ []) steps (step ∷ []) is.found_are ∙ ap (λ (l : List Call). all_calls plan fs steps ++ l) one in
-      (fs ++ found ∷ [], record {
-        found_are = AreFound-append old fs (found ∷ []) steps (step ∷ []) is.found_are
-            (subst (λ (l : List Made). IsFound outside l found step) is.made makes.found_is, tt);
-        made = more old mid now (all_calls plan fs steps) calls is.made makes.ran.ok ∙ ap (λ (l : List Call). old ++ dones l) (sym whole);
-        roots = HaveRoots-append old fs (found ∷ []) steps (step ∷ []) is.found_are is.roots (makes.root, tt);
-      })
+      all_calls-append old fs (found ∷ []) steps (step ∷ []) is.found_are ∙ ap (λ (l : List Call). all_calls plan fs steps ++ l) one in (
+        fs ++ found ∷ [],
+        record {
+          found_are = AreFound-append old fs (found ∷ []) steps (step ∷ []) is.found_are
+              (subst (λ (l : List Made). IsFound outside l found step) is.made makes.found_is, tt);
+          made = more old mid now (all_calls plan fs steps) calls is.made makes.ran.ok ∙ ap (λ (l : List Call). old ++ dones l) (sym whole);
+          roots = HaveRoots-append old fs (found ∷ []) steps (step ∷ []) is.found_are is.roots (makes.root, tt);
+        },
+      )
 
   -- all steps
   pub all_made : {T : Type 0} (steps : List Step) (old now : List Made) (value : T) → AreSoFar steps old now
@@ -140,18 +147,20 @@ module _ (plan : Plan) (outside : Outside) where
       let founds = fs ++ found ∷ rest.0 in
       let here : IsFound outside mid found step × AreFound plan outside (mid ++ dones calls) rest.0 behind = (makes.found_is, rest.1) in
       let whole : all_calls plan founds (steps ++ step ∷ behind) ≡ all_calls plan fs steps ++ (calls ++ all_calls plan rest.0 behind) =
-      all_calls-append old fs (found ∷ rest.0) steps (step ∷ behind) is.found_are in
-      (founds, record {
-        found_are = AreFound-append old fs (found ∷ rest.0) steps (step ∷ behind) is.found_are
-            (subst (λ (l : List Made). AreFound plan outside l (found ∷ rest.0) (step ∷ behind)) is.made here);
-        ran = record {
-          ok = tt;
-          err = subst (λ (l : List Call). BrokeOff old l now) (sym whole)
-              (broke_off_within old mid now (all_calls plan fs steps) calls (all_calls plan rest.0 behind) is.made makes.ran.err);
-        };
-        roots = tt;
-        changed = changed_at fault fs rest.0 found steps behind step old mid now is makes.changed;
-      })
+      all_calls-append old fs (found ∷ rest.0) steps (step ∷ behind) is.found_are in (
+        founds,
+        record {
+          found_are = AreFound-append old fs (found ∷ rest.0) steps (step ∷ behind) is.found_are
+              (subst (λ (l : List Made). AreFound plan outside l (found ∷ rest.0) (step ∷ behind)) is.made here);
+          ran = record {
+            ok = tt;
+            err = subst (λ (l : List Call). BrokeOff old l now) (sym whole)
+                (broke_off_within old mid now (all_calls plan fs steps) calls (all_calls plan rest.0 behind) is.made makes.ran.err);
+          };
+          roots = tt;
+          changed = changed_at fault fs rest.0 found steps behind step old mid now is makes.changed;
+        },
+      )
 
   -- the same at a place of a list of steps
   pub so_far_at : {T : Type 0} (steps : List Step) (i : ℕ) (d : Step) (found : Found) (old mid now : List Made) (value : T) → i < length steps

@@ -8,7 +8,7 @@ use Rattle.rp_pool.specs.Region.{IsOut, IsRegion, Region, Run, bytes_of, written
 use Rattle.rp_pool.proofs.Public.{written_other}
 use Rattle.rp_region.specs.Region.{HoldsCopies, IsLeased, all_out, backup_run, levels_run, piece_run, primary_run}
 use Rattle.rp_region.specs.declared.blocks.Blocks.{Blocks}
-use Rattle.rp_region.proofs.Held.{backup_out, primary_out, region_written}
+use Rattle.rp_region.proofs.Held.{backup_out, length-bytes_of, primary_out, region_written}
 use Rattle.rp_stops.specs.Order.{target_sectors}
 use Rattle.rp_step.specs.Stocked.{IsStocked, KeepsCopies}
 
@@ -17,6 +17,17 @@ piece_out region run out is = rw is record { some = omega arith; out = ap (λ (o
 
 pub levels_out : (region : Region) (run : Run) → region.out ≡ all_out → run ≡ levels_run → IsOut region run
 levels_out region run out is = rw is record { some = omega arith; out = ap (λ (o : List ℕ). slice_index o 130) out }
+
+-- the rooms of a piece and of a tree
+pub piece_size : (region : Region) (run : Run) (bytes : List ℕ) → IsRegion region → region.out ≡ all_out → run ≡ piece_run → bytes ≡ bytes_of region run
+    → length bytes ≡ 262144
+piece_size region run bytes is out run_is are =
+    ap length are ∙ length-bytes_of region run is (piece_out region run out run_is) ∙ ap (λ (r : Run). 4096 * r.blocks) run_is
+
+pub levels_size : (region : Region) (run : Run) (bytes : List ℕ) → IsRegion region → region.out ≡ all_out → run ≡ levels_run → bytes ≡ bytes_of region run
+    → length bytes ≡ 24576
+levels_size region run bytes is out run_is are =
+    ap length are ∙ length-bytes_of region run is (levels_out region run out run_is) ∙ ap (λ (r : Run). 4096 * r.blocks) run_is
 
 -- a run that is out, behind both copies
 kept_by : (old : Blocks) (run : Run) (bytes : List ℕ) → IsLeased old → IsOut old.pool run → 66 ≤ run.first → length bytes ≡ 4096 * run.blocks

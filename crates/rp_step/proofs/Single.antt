@@ -55,8 +55,7 @@ some_blocks tree None made =
     (cut tree.blocks bytes, are_blocks tree.blocks bytes (length-replicate {A = ℕ} (4096 * tree.blocks) 0), tt)
 some_blocks tree (Some first) made =
     let under = bytes_at (shown (history_of first made)) tree.data_at (4096 * tree.blocks) in
-    let bytes = resized under (4096 * tree.blocks) in
-    (
+    let bytes = resized under (4096 * tree.blocks) in (
       cut tree.blocks bytes,
       are_blocks tree.blocks bytes (length-resized under (4096 * tree.blocks)),
       λ reaches. ap (cut tree.blocks) (resized-same under (4096 * tree.blocks)

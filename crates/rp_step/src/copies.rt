@@ -2,13 +2,11 @@
 
 ghost use Rattle.std.specs.Prelude.{◌≡◌, ◌*◌, ◌≤◌, ◌∷◌, [], IfSome, length};
 ghost use Rattle.rp_base.specs.Faults.{HasCause};
-ghost use Rattle.rp_base.specs.Table.{IsWritable};
-ghost use Rattle.rp_copies.specs.Room.{HasRoom};
 ghost use Rattle.rp_disk.specs.History.{shown};
 ghost use Rattle.rp_disk.specs.Made.{history_told};
 ghost use Rattle.rp_disk.specs.Runs.{Runs};
 ghost use Rattle.rp_stops.specs.Order.{array_call, header_call};
-ghost use Rattle.rp_step.specs.Stocked.{IsStocked};
+ghost use Rattle.rp_step.specs.Stocked.{CanWrite, IsStocked};
 
 use crate::rooms::copy_for;
 use rp_base::{Failed, Plan, Which};
@@ -17,10 +15,14 @@ use rp_disk::Disk;
 use rp_region::Blocks;
 
 // Writes the array of a place.
-pub fn array<D: Disk>(disk: &mut D, plan: &Plan, blocks: &Blocks, which: Which) -> Result<(), Failed>
+pub fn array<D: Disk>(
+    disk: &mut D,
+    plan: &Plan,
+    blocks: &Blocks,
+    which: Which,
+) -> Result<(), Failed>
     requires stocked { IsStocked plan.now blocks.now }
-    requires writable { IsWritable plan.now.goal }
-    requires room { HasRoom plan.now }
+    requires goal { CanWrite plan.now }
     ensures first { D.first disk.new ≡ D.first disk.old }
     ensures ran { Runs (D.calls disk.old) (array_call plan.now which ∷ []) (D.calls disk.new) result }
     ensures strays { IfSome (history_told (D.first disk.old) (D.calls disk.old)) (λ h. 512 * plan.now.target ≤ length (shown h) → D.strays disk.new ≡ D.strays disk.old) }
@@ -30,10 +32,14 @@ pub fn array<D: Disk>(disk: &mut D, plan: &Plan, blocks: &Blocks, which: Which) 
 }
 
 // Writes the header of a place.
-pub fn header<D: Disk>(disk: &mut D, plan: &Plan, blocks: &Blocks, which: Which) -> Result<(), Failed>
+pub fn header<D: Disk>(
+    disk: &mut D,
+    plan: &Plan,
+    blocks: &Blocks,
+    which: Which,
+) -> Result<(), Failed>
     requires stocked { IsStocked plan.now blocks.now }
-    requires writable { IsWritable plan.now.goal }
-    requires room { HasRoom plan.now }
+    requires goal { CanWrite plan.now }
     ensures first { D.first disk.new ≡ D.first disk.old }
     ensures ran { Runs (D.calls disk.old) (header_call plan.now which ∷ []) (D.calls disk.new) result }
     ensures strays { IfSome (history_told (D.first disk.old) (D.calls disk.old)) (λ h. 512 * plan.now.target ≤ length (shown h) → D.strays disk.new ≡ D.strays disk.old) }

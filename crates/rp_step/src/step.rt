@@ -1,14 +1,12 @@
 ghost use Rattle.std.specs.Prelude.{◌≡◌, IfSome, length};
 ghost use Rattle.rp_base.specs.Faults.{HasCause};
-ghost use Rattle.rp_base.specs.Table.{IsWritable};
-ghost use Rattle.rp_copies.specs.Room.{HasRoom};
 ghost use Rattle.rp_disk.specs.History.{shown};
 ghost use Rattle.rp_disk.specs.Made.{history_told};
 ghost use Rattle.rp_disk.specs.Runs.{Runs};
 ghost use Rattle.rp_step.specs.Causes.{HasDiskCause, HasSourceCause};
 ghost use Rattle.rp_step.specs.Found.{CanMake, Found, HasFile, IsFixed, LiesIn, calls_with, nothing_found, outside_of};
 ghost use Rattle.rp_step.specs.Made.{MakesStep};
-ghost use Rattle.rp_step.specs.Stocked.{IsStocked};
+ghost use Rattle.rp_step.specs.Stocked.{CanWrite, IsStocked};
 
 use crate::ApplyFault;
 use crate::contents::{copy, tree, zero};
@@ -32,8 +30,7 @@ pub fn make_step<D: Disk, S: Sources>(
     blocks: &mut Blocks,
     step: &Step,
 ) -> Result<(), ApplyFault>
-    requires room { HasRoom plan.now }
-    requires writable { IsWritable plan.now.goal }
+    requires goal { CanWrite plan.now }
     requires stocked { IsStocked plan.now blocks.old }
     requires can { CanMake paths.now step.now }
     ensures stocked { IsStocked plan.now blocks.new }
@@ -80,8 +77,7 @@ fn make_fixed<D: Disk>(
     blocks: &mut Blocks,
     step: &Step,
 ) -> Result<(), Failed>
-    requires room { HasRoom plan.now }
-    requires writable { IsWritable plan.now.goal }
+    requires goal { CanWrite plan.now }
     requires stocked { IsStocked plan.now blocks.old }
     requires fixed { IsFixed step.now }
     ensures stocked { IsStocked plan.now blocks.new }

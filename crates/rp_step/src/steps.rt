@@ -1,12 +1,10 @@
 ghost use Rattle.std.specs.Prelude.{◌≡◌, All, IfSome, length};
-ghost use Rattle.rp_base.specs.Table.{IsWritable};
-ghost use Rattle.rp_copies.specs.Room.{HasRoom};
 ghost use Rattle.rp_disk.specs.History.{shown};
 ghost use Rattle.rp_disk.specs.Made.{history_told};
 ghost use Rattle.rp_step.specs.Causes.{HasDiskCause, HasSourceCause};
 ghost use Rattle.rp_step.specs.Found.{CanMake, Found, HasFile, outside_of};
 ghost use Rattle.rp_step.specs.Run.{AllLieIn, MakesSteps};
-ghost use Rattle.rp_step.specs.Stocked.{IsStocked};
+ghost use Rattle.rp_step.specs.Stocked.{CanWrite, IsStocked};
 
 use crate::ApplyFault;
 use crate::step::make_step;
@@ -25,8 +23,7 @@ pub fn make_steps<D: Disk, S: Sources>(
     blocks: &mut Blocks,
     steps: &[Step],
 ) -> Result<(), ApplyFault>
-    requires room { HasRoom plan.now }
-    requires writable { IsWritable plan.now.goal }
+    requires goal { CanWrite plan.now }
     requires stocked { IsStocked plan.now blocks.old }
     requires can { All (CanMake paths.now) steps.now }
     ensures stocked { IsStocked plan.now blocks.new }

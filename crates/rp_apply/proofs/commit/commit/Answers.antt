@@ -1,0 +1,18 @@
+use Rattle.rp_apply.proofs.Committed.{any_moment_of, changed_of, complete_of, ended_of, planned_of}
+use Rattle.rp_apply.proofs.commit.commit.Goals as goal
+
+pub returns-clause-planned : goal.returns-clause-planned
+returns-clause-planned g c = planned_of c.args.ready c.requires _ _ _ _ c.carry_out.result c.carry_out.ensures.made
+
+pub returns-clause-changed : goal.returns-clause-changed
+returns-clause-changed g c = changed_of c.args.ready c.requires _ _ _ _ c.carry_out.result c.carry_out.ensures.made
+
+pub returns-clause-complete : goal.returns-clause-complete
+returns-clause-complete g c =
+    complete_of c.args.ready c.requires _ _ _ _ _ _ _ _ c.carry_out.result c.carry_out.ensures.made c.carry_out.ensures.disk_cause c.carry_out.ensures.source_cause
+
+pub returns-clause-ended : goal.returns-clause-ended
+returns-clause-ended g c = ended_of c.args.ready c.requires _ _ _ _ c.carry_out.result c.carry_out.ensures.made
+
+pub returns-clause-any_moment : goal.returns-clause-any_moment
+returns-clause-any_moment g c = any_moment_of c.args.ready c.requires _ _ _ _ c.carry_out.result c.carry_out.ensures.made
