@@ -9,7 +9,6 @@ use Rattle.rp_base.specs.declared.geometry.Which.{Which}
 use Rattle.rp_base.specs.declared.geometry.Which.TheVariants.{Primary, Backup}
 use Rattle.rp_base.specs.declared.plan.Change.{Change}
 use Rattle.rp_base.specs.declared.plan.Change.TheVariants.{New, Changed, Same}
-use Rattle.rp_base.specs.declared.plan.Note.{Note}
 use Rattle.rp_base.specs.declared.plan.Plan.{Plan}
 use Rattle.rp_base.specs.declared.plan.Role.{Role}
 use Rattle.rp_base.specs.declared.plan.Role.TheVariants.{Plain, Data, Hash}
@@ -30,16 +29,14 @@ use Rattle.rp_steps.specs.declared.step.Step.{Step}
 use Rattle.rp_steps.specs.declared.step.Step.TheVariants.{Grow, Zero, Copy, Tree, ClosePrimary, ArrayPrimary, HeaderPrimary, CloseBackup, ArrayBackup, HeaderBackup, Mbr, Sync}
 use Rattle.rp_steps.proofs.Copying.{part_added}
 use Rattle.rp_steps.proofs.Made.{calls-synced, copies_as, growth_as, mbr_part, order_is}
-use Rattle.rp_steps.proofs.Planned.{length-noted_of, one_note}
 use Rattle.rp_steps.proofs.Written.{Each-append}
 use Rattle.rp_stops.specs.Order as stops
 use Rattle.rp_stops.specs.Order.{AreCallsOf, contents_blocks, copy_blocks}
 use Rattle.rp_stops.specs.Rows.{IsInNewRow, IsInside}
-use Rattle.rp_apply.proofs.Can.{IsRow, are_rows}
+use Rattle.rp_apply.proofs.Can.{IsRow, are_rows, role_fits}
 use Rattle.rp_apply.proofs.Every.{Everywhere, copies, grown, mbr}
 use Rattle.rp_apply.proofs.Inside.{pieces_in, some_pieces, some_tree, tree_in}
 use Rattle.rp_apply.proofs.Parts.{OfRange, payload_each, zeros_each}
-use Rattle.rp_apply.proofs.Partners.{noted_at}
 
 -- no source and no data row has a part in a step
 abbrev pub IsExact : Step → Type 0
@@ -166,21 +163,13 @@ module _ (plan : Plan) (outside : Outside) where
           );
     }
 
-    role_fits : (noted : Noted) → Row_of noted → RoleFits noted.1.role
-    role_fits noted row =
-        let k = row.place in
-        let place = noted_at seen plan formed k noted row.below in
-        let here : k < length plan.notes = omega (arith, row.below, length-noted_of seen plan formed, one_note seen plan formed) in
-        let is : get_or plan.notes k noted.1 ≡ noted.1 = ap (λ (x : Noted). x.1) (sym place ∙ row.is) in
-        subst (λ (n : Note). RoleFits n.role) is (fit k noted.1 here)
-
     tree_row : (noted : Noted) (role : Role) → NewRow noted → noted.1.role ≡ role → All InNewRows (tree_steps plan.goal.rows noted.0 role)
     unfolding tree_steps calls_with
     tree_row noted Plain new is = All-nil InNewRows
     tree_row noted (Data partner root) new is = All-nil InNewRows
     tree_row noted (Hash partner blocks salt uuid root) new is =
         let room : HasRoom noted.0 (Hash partner blocks salt uuid root) = subst (λ (r : Role). HasRoom noted.0 r) is new.0.planned_is.tree in
-        let fields : RoleFits (Hash partner blocks salt uuid root) = subst RoleFits is (role_fits noted new.0) in
+        let fields : RoleFits (Hash partner blocks salt uuid root) = subst RoleFits is (role_fits seen plan formed fit noted new.0) in
         let from = byte_of_slot plan.goal.rows partner in
         let step = Tree from (from_byte noted.0) blocks salt uuid root in
         let one : InNewRows step = λ made found found_is. (

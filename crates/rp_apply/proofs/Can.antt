@@ -1,12 +1,14 @@
 -- Each step of a well formed plan can be made.
-use Rattle.std.proofs.Common.{◌≡◌, ◌≢◌, ℕ, ◌+◌, ◌*◌, ◌-◌, ◌^◌, ◌<◌, ◌≤◌, ◌⊎◌, inl, inr, List, [], ◌∷◌, length, get_or, refl, sym, ap, ◌∙◌, subst, arith, All}
+use Rattle.std.proofs.Common.{◌≡◌, ◌≢◌, ℕ, ◌+◌, ◌*◌, ◌-◌, ◌/◌, ◌^◌, ◌<◌, ◌≤◌, ◌⊎◌, inl, inr, List, [], ◌∷◌, length, get_or, refl, sym, ap, ◌∙◌, subst, arith, All}
 use Rattle.std.proofs.lemmas.Bool.{cases_order}
 use Rattle.std.proofs.lemmas.List.{get_or_default}
 use Rattle.std.proofs.lemmas.List.Elements.{All-cons, All-nil}
+use Rattle.rp_base.specs.Geometry.{IsSector, sector_units, usable_end}
 use Rattle.rp_base.specs.Plan.{IsPair, IsWellFormed, Noted, noted_of}
 use Rattle.rp_base.specs.Table.{AreApart}
 use Rattle.rp_base.specs.Trees.{hash_blocks}
 use Rattle.rp_base.specs.declared.guid.Guid.{Guid}
+use Rattle.rp_base.specs.declared.plan.Note.{Note}
 use Rattle.rp_base.specs.declared.plan.Plan.{Plan}
 use Rattle.rp_base.specs.declared.plan.Role.{Role}
 use Rattle.rp_base.specs.declared.plan.Role.TheVariants.{Plain, Data, Hash}
@@ -14,11 +16,12 @@ use Rattle.rp_base.specs.declared.seen.Seen.{Seen}
 use Rattle.rp_base.specs.declared.table.Row.{Row}
 use Rattle.rp_format.specs.Written.{IsTreePlan, data_end, hash_end}
 use Rattle.rp_step.specs.Found.{CanMake, tree_of}
+use Rattle.rp_steps.specs.Contents.{NotesFit, RoleFits}
 use Rattle.rp_steps.specs.Planned.{HasRoom, IsPlanned}
 use Rattle.rp_steps.specs.Steps.{byte_count, byte_of_slot, from_byte, steps, tree_steps}
 use Rattle.rp_steps.specs.declared.step.Step.{Step}
 use Rattle.rp_steps.specs.declared.step.Step.TheVariants.{Grow, Zero, Copy, Tree, ClosePrimary, ArrayPrimary, HeaderPrimary, CloseBackup, ArrayBackup, HeaderBackup, Mbr, Sync}
-use Rattle.rp_steps.proofs.Planned.{length-noted_of, planned}
+use Rattle.rp_steps.proofs.Planned.{length-noted_of, one_note, planned}
 use Rattle.rp_apply.specs.Ready.{NamesPath}
 use Rattle.rp_apply.proofs.Every.{every_step}
 use Rattle.rp_apply.proofs.Parts.{OfRange, payload_each, zeros_each}
@@ -46,6 +49,31 @@ module _ (seen : Seen) (plan : Plan) (formed : IsWellFormed seen plan) where
   are_rows k d below =
       let noted = get_or (noted_of plan) k d in
       record { place = k; below = below; is = get_or_default (noted_of plan) k noted d below; planned_is = planned seen plan formed k d below }
+
+  -- a row lies in the target
+  usable_inside : (sector entries target : ℕ) → IsSector sector → usable_end sector entries (target / sector_units sector) ≤ target
+  usable_inside sector entries target (inl small) = subst (λ (z : ℕ). usable_end z entries (target / sector_units z) ≤ target) (sym small) (omega arith)
+  usable_inside sector entries target (inr large) = subst (λ (z : ℕ). usable_end z entries (target / sector_units z) ≤ target) (sym large) (omega arith)
+
+  pub row_inside : (noted : Noted) → IsRow noted → from_byte noted.0 + byte_count noted.0 ≤ 512 * plan.target
+  row_inside noted row =
+      let k = row.place in
+      let place = noted_at seen plan formed k noted row.below in
+      let here : k < length plan.goal.rows = omega (arith, row.below, length-noted_of seen plan formed) in
+      let is : get_or plan.goal.rows k noted.0 ≡ noted.0 = ap (λ (x : Noted). x.0) (sym place ∙ row.is) in
+      let bounds = formed.rows.in_bounds k noted.0 here in
+      let end : (get_or plan.goal.rows k noted.0).start + (get_or plan.goal.rows k noted.0).size ≤ plan.target =
+      omega (arith, bounds.1, formed.bounded.last, usable_inside plan.goal.sector plan.goal.entries plan.target formed.writable.sector) in
+      subst (λ (r : Row). from_byte r + byte_count r ≤ 512 * plan.target) is (omega (arith, end))
+
+  -- the numbers of its role are within their fields
+  pub role_fits : NotesFit plan → (noted : Noted) → IsRow noted → RoleFits noted.1.role
+  role_fits fit noted row =
+      let k = row.place in
+      let place = noted_at seen plan formed k noted row.below in
+      let here : k < length plan.notes = omega (arith, row.below, length-noted_of seen plan formed, one_note seen plan formed) in
+      let is : get_or plan.notes k noted.1 ≡ noted.1 = ap (λ (x : Noted). x.1) (sym place ∙ row.is) in
+      subst (λ (n : Note). RoleFits n.role) is (fit k noted.1 here)
 
   -- a data row and the row of its tree lie apart
   other_place : (under noted : Noted) (i j : ℕ) → get_or (noted_of plan) i under ≡ under → get_or (noted_of plan) j noted ≡ noted → IsPair under noted
@@ -80,7 +108,7 @@ module _ (seen : Seen) (plan : Plan) (formed : IsWellFormed seen plan) where
         inr (subst (λ (r : Row). AreApart r a.0) (row_is b j bj at_j)
         (subst (λ (r : Row). AreApart (get_or plan.goal.rows j a.0) r) (row_is a i bi at_i) (formed.rows.apart j i a.0 behind (inside i bi))))
 
-  partner_at : (noted : Noted) → IsRow noted → (partner blocks : ℕ) (salt : List ℕ) (uuid : Guid) (root : List ℕ)
+  pub partner_at : (noted : Noted) → IsRow noted → (partner blocks : ℕ) (salt : List ℕ) (uuid : Guid) (root : List ℕ)
       → noted.1.role ≡ Hash partner blocks salt uuid root → Partner seen plan formed noted partner blocks
   partner_at noted row partner blocks salt uuid root role =
       subst (λ (n : Noted). Partner seen plan formed n partner blocks) row.is

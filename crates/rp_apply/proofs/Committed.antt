@@ -2,7 +2,7 @@
 use Rattle.std.proofs.Common.{◌≡◌, ℕ, ◌*◌, List, length, Option, Some, None, Result, Ok, Err, OnOk, refl, sym, ap, ◌∙◌, subst}
 use Rattle.std.specs.Prelude.{IfSome}
 use Rattle.rp_disk.specs.History.{shown}
-use Rattle.rp_disk.specs.Made.{Made, history_of}
+use Rattle.rp_disk.specs.Made.{Made, history_of, history_told}
 use Rattle.rp_io.specs.declared.stored.Stored.{Stored}
 use Rattle.rp_steps.specs.Calls.{calls}
 use Rattle.rp_steps.specs.Steps.{steps}
@@ -10,12 +10,13 @@ use Rattle.rp_steps.specs.declared.step.Step.{Step}
 use Rattle.rp_stops.proofs.Carried.{plan-given}
 use Rattle.rp_step.specs.Causes.{HasDiskCause, HasSourceCause}
 use Rattle.rp_step.specs.Found.{Found, outside_of}
-use Rattle.rp_step.specs.Run.{MakesSteps}
+use Rattle.rp_step.specs.Run.{AllLieIn, MakesSteps}
 use Rattle.rp_step.specs.declared.fault.ApplyFault.{ApplyFault}
 use Rattle.rp_apply.specs.Commits.{AnyMomentIsSafe, ChangesAtRoots, EndsFinal, IsComplete, MakesPlanned, sources_of}
 use Rattle.rp_apply.specs.Ready.{IsReady}
 use Rattle.rp_apply.specs.declared.ready.Ready.{Ready}
 use Rattle.rp_apply.proofs.Ending.{any_safe, ends_final, planned_runs}
+use Rattle.rp_apply.proofs.Lying.{lies}
 use Rattle.rp_apply.proofs.Judging.{changes_at, complete}
 
 module _ (ready : Ready) (is : IsReady ready) where
@@ -73,3 +74,12 @@ module _ (ready : Ready) (is : IsReady ready) where
   any_moment_of told (Some bytes) old new result makes = λ sector empty plan_is settled.
       let m = of_plan told (Some bytes) old new result makes in
       any_safe ready.seen ready.plan is.well_formed is.notes_fit told ready.paths bytes m.0 old new result sector empty m.1 plan_is settled
+
+  -- no stray call on a disk as long as it was seen
+  pub strays_of : (first : Option (List ℕ)) (old : List Made) (before now : ℕ)
+      → IfSome (history_told first old) (λ h. AllLieIn ready.plan (length (shown h)) ready.steps → now ≡ before)
+      → IfSome (history_told first old) (λ h. length (shown h) ≡ 512 * ready.seen.sectors → now ≡ before)
+  strays_of None old before now stays = tt
+  strays_of (Some bytes) old before now stays = λ long.
+      let P : ℕ → List Step → Type 0 = λ n l. AllLieIn ready.plan n l in
+      stays (subst (λ (n : ℕ). P n ready.steps) (sym long) (subst (λ (l : List Step). P (512 * ready.seen.sectors) l) (sym is.steps) (lies ready.seen ready.plan is.well_formed)))

@@ -4,7 +4,6 @@ use Rattle.std.proofs.lemmas.Bool.{ltb-false}
 use Rattle.std.proofs.lemmas.Grind.{flat_map-append}
 use Rattle.std.proofs.lemmas.List.{append-nil, get_or_default, length-replicate}
 use Rattle.std.proofs.lemmas.List.Elements.{All-append, All-cons, All-filter, All-head, All-nil, All-tail}
-use Rattle.rp_base.specs.Geometry.{IsSector, sector_units, usable_end}
 use Rattle.rp_base.specs.Image.{bytes_at, range_of}
 use Rattle.rp_base.specs.Plan.{IsPair, IsWellFormed, Noted, noted_of}
 use Rattle.rp_base.specs.Table.{AreApart}
@@ -13,7 +12,6 @@ use Rattle.rp_base.specs.declared.geometry.Which.{Which}
 use Rattle.rp_base.specs.declared.geometry.Which.TheVariants.{Primary, Backup}
 use Rattle.rp_base.specs.declared.guid.Guid.{Guid}
 use Rattle.rp_base.specs.declared.plan.Change.TheVariants.{New}
-use Rattle.rp_base.specs.declared.plan.Note.{Note}
 use Rattle.rp_base.specs.declared.plan.Plan.{Plan}
 use Rattle.rp_base.specs.declared.plan.Role.{Role}
 use Rattle.rp_base.specs.declared.plan.Role.TheVariants.{Plain, Data, Hash}
@@ -35,17 +33,16 @@ use Rattle.rp_steps.specs.declared.step.Step.{Step}
 use Rattle.rp_steps.specs.declared.step.Step.TheVariants.{Grow, Zero, Copy, Tree, ClosePrimary, ArrayPrimary, HeaderPrimary, CloseBackup, ArrayBackup, HeaderBackup, Mbr, Sync}
 use Rattle.rp_steps.proofs.Contented.{are_in_new_rows, contents_hold}
 use Rattle.rp_steps.proofs.Copying.{part_added}
-use Rattle.rp_steps.proofs.Planned.{length-noted_of, one_note}
 use Rattle.rp_steps.proofs.Rowed.{HasFile, has_file, row_fill}
 use Rattle.rp_steps.proofs.Written.{Each-append, Writes, inside_writes}
 use Rattle.rp_stops.specs.Rows.{HoldContents, IsInNewRow, IsInside}
 use Rattle.rp_verity.specs.Filled.{cut}
 use Rattle.rp_step.proofs.Tied.{AreLaid, IsLaid}
-use Rattle.rp_apply.proofs.Can.{IsRow, are_rows, other_place, partner_at, rows_apart}
+use Rattle.rp_apply.proofs.Can.{IsRow, are_rows, partner_at, role_fits, row_inside, rows_apart}
 use Rattle.rp_apply.proofs.Every.{Everywhere, copies, grown, mbr}
 use Rattle.rp_apply.proofs.Inside.{inside_row}
 use Rattle.rp_apply.proofs.Parts.{OfRange, payload_each, zeros_each}
-use Rattle.rp_apply.proofs.Partners.{Partner, noted_at, payload_of_row}
+use Rattle.rp_apply.proofs.Partners.{Partner, payload_of_row}
 
 -- a step that writes no tree
 abbrev pub IsNoTree : Step → Type 0
@@ -99,30 +96,6 @@ module _ (plan : Plan) (sources : Sources) where
     abbrev Row_of : Noted → Type 0
     Row_of noted = IsRow seen plan formed noted
 
-    -- a row lies in the target
-    usable_inside : (sector entries target : ℕ) → IsSector sector → usable_end sector entries (target / sector_units sector) ≤ target
-    usable_inside sector entries target (inl small) = subst (λ (z : ℕ). usable_end z entries (target / sector_units z) ≤ target) (sym small) (omega arith)
-    usable_inside sector entries target (inr large) = subst (λ (z : ℕ). usable_end z entries (target / sector_units z) ≤ target) (sym large) (omega arith)
-
-    row_inside : (noted : Noted) → Row_of noted → from_byte noted.0 + byte_count noted.0 ≤ 512 * plan.target
-    row_inside noted row =
-        let k = row.place in
-        let place = noted_at seen plan formed k noted row.below in
-        let here : k < length plan.goal.rows = omega (arith, row.below, length-noted_of seen plan formed) in
-        let is : get_or plan.goal.rows k noted.0 ≡ noted.0 = ap (λ (x : Noted). x.0) (sym place ∙ row.is) in
-        let bounds = formed.rows.in_bounds k noted.0 here in
-        let end : (get_or plan.goal.rows k noted.0).start + (get_or plan.goal.rows k noted.0).size ≤ plan.target =
-        omega (arith, bounds.1, formed.bounded.last, usable_inside plan.goal.sector plan.goal.entries plan.target formed.writable.sector) in
-        subst (λ (r : Row). from_byte r + byte_count r ≤ 512 * plan.target) is (omega (arith, end))
-
-    role_fits : (noted : Noted) → Row_of noted → RoleFits noted.1.role
-    role_fits noted row =
-        let k = row.place in
-        let place = noted_at seen plan formed k noted row.below in
-        let here : k < length plan.notes = omega (arith, row.below, length-noted_of seen plan formed, one_note seen plan formed) in
-        let is : get_or plan.notes k noted.1 ≡ noted.1 = ap (λ (x : Noted). x.1) (sym place ∙ row.is) in
-        subst (λ (n : Note). RoleFits n.role) is (fit k noted.1 here)
-
     source_is : (noted : Noted) → Row_of noted → HasFile noted
     source_is noted row = subst HasFile row.is (has_file (get_or (noted_of plan) row.place noted) (formed.sources row.place noted row.below))
 
@@ -131,9 +104,9 @@ module _ (plan : Plan) (sources : Sources) where
         → Each (IsInside noted.0) (calls_of_steps plan sources (tree_steps plan.goal.rows noted.0 role))
     in_row noted role row is =
         let image : List ℕ = replicate (512 * plan.target) 0 in
-        let fits : from_byte noted.0 + byte_count noted.0 ≤ length image = omega (arith, row_inside noted row, length-replicate {A = ℕ} (512 * plan.target) 0) in
+        let fits : from_byte noted.0 + byte_count noted.0 ≤ length image = omega (arith, row_inside seen plan formed noted row, length-replicate {A = ℕ} (512 * plan.target) 0) in
         let fill = row_fill plan sources noted role image (source_is noted row) row.planned_is.source fits
-        (subst (λ (r : Role). HasRoom noted.0 r) is row.planned_is.tree) (subst RoleFits is (role_fits noted row)) in
+        (subst (λ (r : Role). HasRoom noted.0 r) is row.planned_is.tree) (subst RoleFits is (role_fits seen plan formed fit noted row)) in
         let value = λ (k : ℕ). get_or (contents_as plan sources image noted role) (k - from_byte noted.0) 0 in
         Each-imp (Writes value (from_byte noted.0) (from_byte noted.0 + byte_count noted.0)) (IsInside noted.0) (λ call writes. inside_row value _ _ noted.0 call (omega arith) (omega arith) writes)
         (calls_of_steps plan sources (tree_steps plan.goal.rows noted.0 role))
@@ -162,7 +135,7 @@ module _ (plan : Plan) (sources : Sources) where
         let row = All-head Row_of noted rows are in
         subst (λ (l : List Call). Each (Inside (512 * plan.target)) l) (sym (calls_split noted rows))
         (Each-append (Inside (512 * plan.target)) (tree_calls_of noted) (calls_of_steps plan sources (trees_of rows))
-        (Each-imp (IsInside noted.0) (Inside (512 * plan.target)) (λ call is. inside_target noted.0 call (row_inside noted row) is) (tree_calls_of noted) (in_row noted noted.1.role row refl))
+        (Each-imp (IsInside noted.0) (Inside (512 * plan.target)) (λ call is. inside_target noted.0 call (row_inside seen plan formed noted row) is) (tree_calls_of noted) (in_row noted noted.1.role row refl))
         (all_inside rows (All-tail Row_of noted rows are)))
 
     -- a data row, which no tree touches
@@ -201,7 +174,7 @@ module _ (plan : Plan) (sources : Sources) where
     will_more base image noted rows are will =
         let row = All-head Row_of noted rows are in
         let inside : Each (Inside (512 * plan.target)) (tree_calls_of noted) =
-        Each-imp (IsInside noted.0) (Inside (512 * plan.target)) (λ call is. inside_target noted.0 call (row_inside noted row) is) (tree_calls_of noted) (in_row noted noted.1.role row refl) in
+        Each-imp (IsInside noted.0) (Inside (512 * plan.target)) (λ call is. inside_target noted.0 call (row_inside seen plan formed noted row) is) (tree_calls_of noted) (in_row noted noted.1.role row refl) in
         record {
           long = length-all_done (tree_calls_of noted) image (512 * plan.target) will.long inside;
           hold = subst (λ (l : List ℕ). HoldContents plan (contents plan sources base) l)
@@ -220,7 +193,7 @@ module _ (plan : Plan) (sources : Sources) where
         let calls = calls_of_steps plan sources (trees_of rows) in
         let P : Noted → Type 0 = λ n. n.1.change ≡ New → range_of (all_done image calls) n.0 ≡ contents plan sources base n in
         let held : range_of (all_done image calls) under.0 ≡ contents plan sources base under = subst P u.is (will.hold u.place under u.below) new in
-        sym (bytes_at-all_done (from_byte under.0) (byte_count under.0) calls image (512 * plan.target) will.long (row_inside under u) (all_inside rows are)
+        sym (bytes_at-all_done (from_byte under.0) (byte_count under.0) calls image (512 * plan.target) will.long (row_inside seen plan formed under u) (all_inside rows are)
         (all_apart under partner hash u is rows are))
         ∙ held ∙ data_contents base under under.1.role partner hash is
 
@@ -237,7 +210,7 @@ module _ (plan : Plan) (sources : Sources) where
         let u : Row_of under = subst Row_of p.is of in
         let at : byte_of_slot plan.goal.rows partner ≡ from_byte under.0 = p.at in
         let held = held_now base image (noted ∷ rows) under noted.1.slot p.pair.payload_role.0 are will u p.pair.payload_role.1 p.pair.new.0 in
-        let fits = row_inside under u in
+        let fits = row_inside seen plan formed under u in
         let there : payload_at plan sources (from_byte under.0) ≡ payload sources under =
         subst (λ (n : Noted). payload_at plan sources (from_byte n.0) ≡ payload sources n) p.is (payload_of_row seen plan formed sources p.place under p.below) in (
           (
@@ -267,7 +240,7 @@ module _ (plan : Plan) (sources : Sources) where
     new_inside : (call : Call) → IsInNewRow plan call → Inside (512 * plan.target) call
     new_inside call is =
         let row = subst Row_of is.3 (are_rows seen plan formed is.0 is.1 is.2) in
-        inside_target is.1.0 call (row_inside is.1 row) is.4.1
+        inside_target is.1.0 call (row_inside seen plan formed is.1 row) is.4.1
 
     -- the contents, on an image of the target's length
     pub contents_laid : (image : List ℕ) → length image ≡ 512 * plan.target → AreLaid plan sources image (contents_steps plan)

@@ -1,4 +1,4 @@
-ghost use Rattle.std.specs.Prelude.{◌≡◌, All, IfOk, IfSome, OnOk, length};
+ghost use Rattle.std.specs.Prelude.{◌≡◌, ◌*◌, All, IfOk, IfSome, OnOk, length};
 ghost use Rattle.rp_disk.specs.History.{shown};
 ghost use Rattle.rp_disk.specs.Made.{history_told};
 ghost use Rattle.rp_step.specs.Causes.{HasDiskCause, HasSourceCause};
@@ -36,7 +36,8 @@ pub fn commit<D: Disk, S: Sources>(
     ensures writes { IfOk result (λ done. done.writes ≡ writes_in ready.steps) }
     ensures disk_cause { HasDiskCause (D.faults disk.old) (D.faults disk.new) result }
     ensures source_cause { HasSourceCause (S.faults sources.old) (S.faults sources.new) result }
-    ensures disk_strays { IfSome (history_told (D.first disk.old) (D.calls disk.old)) (λ h. AllLieIn ready.plan (length (shown h)) ready.steps → D.strays disk.new ≡ D.strays disk.old) }
+    // No call goes past the end of a disk as long as it was seen, nor of a file that has the bytes.
+    ensures disk_strays { IfSome (history_told (D.first disk.old) (D.calls disk.old)) (λ h. length (shown h) ≡ 512 * ready.seen.sectors → D.strays disk.new ≡ D.strays disk.old) }
     ensures source_strays { IfSome (S.told sources.old) (λ files. All (HasFile files ready.paths) ready.steps → S.strays sources.new ≡ S.strays sources.old) }
 
     // Where both tell: they are the calls of the plan, and a source has changed exactly where a tree's root isn't the planned one.

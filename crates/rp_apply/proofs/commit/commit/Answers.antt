@@ -1,4 +1,4 @@
-use Rattle.rp_apply.proofs.Committed.{any_moment_of, changed_of, complete_of, ended_of, planned_of}
+use Rattle.rp_apply.proofs.Committed.{any_moment_of, changed_of, complete_of, ended_of, planned_of, strays_of}
 use Rattle.rp_apply.proofs.commit.commit.Goals as goal
 
 pub returns-clause-planned : goal.returns-clause-planned
@@ -16,3 +16,6 @@ returns-clause-ended g c = ended_of c.args.ready c.requires _ _ _ _ c.carry_out.
 
 pub returns-clause-any_moment : goal.returns-clause-any_moment
 returns-clause-any_moment g c = any_moment_of c.args.ready c.requires _ _ _ _ c.carry_out.result c.carry_out.ensures.made
+
+pub returns-clause-disk_strays : goal.returns-clause-disk_strays
+returns-clause-disk_strays g c = strays_of c.args.ready c.requires _ _ _ _ c.carry_out.ensures.disk_strays
