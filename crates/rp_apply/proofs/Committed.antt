@@ -1,7 +1,9 @@
 -- The clauses of `commit`, from what is known of the calls.
 use Rattle.std.proofs.Common.{◌≡◌, ℕ, ◌*◌, List, length, Option, Some, None, Result, Ok, Err, OnOk, refl, sym, ap, ◌∙◌, subst}
 use Rattle.std.specs.Prelude.{IfSome}
-use Rattle.rp_disk.specs.History.{shown}
+use Rattle.std.specs.Prelude.{All, Any}
+use Rattle.rp_base.specs.Plan.{noted_of}
+use Rattle.rp_disk.specs.History.{IsLawful, shown}
 use Rattle.rp_disk.specs.Made.{Made, history_of, history_told}
 use Rattle.rp_io.specs.declared.stored.Stored.{Stored}
 use Rattle.rp_steps.specs.Calls.{calls}
@@ -11,10 +13,15 @@ use Rattle.rp_stops.proofs.Carried.{plan-given}
 use Rattle.rp_step.specs.Causes.{HasDiskCause, HasSourceCause}
 use Rattle.rp_step.specs.Found.{Found, outside_of}
 use Rattle.rp_step.specs.Run.{AllLieIn, MakesSteps}
+use Rattle.rp_step.specs.Made.{IfChanged}
 use Rattle.rp_step.specs.declared.fault.ApplyFault.{ApplyFault}
-use Rattle.rp_apply.specs.Commits.{AnyMomentIsSafe, ChangesAtRoots, EndsFinal, IsComplete, MakesPlanned, sources_of}
-use Rattle.rp_apply.specs.Ready.{IsReady}
+use Rattle.rp_step.specs.declared.fault.ApplyFault.TheVariants.{DiskFault, SourceFault, SourceChanged}
+use Rattle.rp_step.proofs.Stopping.{stopped_shown}
+use Rattle.rp_apply.specs.Commits.{AnyMomentIsSafe, ChangesAtRoots, EndsFinal, IsComplete, MakesPlanned, ShowsOther, TellsShown, sources_of}
+use Rattle.rp_apply.specs.Ready.{IsReady, NamesPath}
 use Rattle.rp_apply.specs.declared.ready.Ready.{Ready}
+use Rattle.rp_apply.proofs.Can.{can_make}
+use Rattle.rp_apply.proofs.Roots.{shown_among}
 use Rattle.rp_apply.proofs.Ending.{any_safe, ends_final, planned_runs}
 use Rattle.rp_apply.proofs.Lying.{lies}
 use Rattle.rp_apply.proofs.Judging.{changes_at, complete}
@@ -83,3 +90,25 @@ module _ (ready : Ready) (is : IsReady ready) where
   strays_of (Some bytes) old before now stays = λ long.
       let P : ℕ → List Step → Type 0 = λ n l. AllLieIn ready.plan n l in
       stays (subst (λ (n : ℕ). P n ready.steps) (sym long) (subst (λ (l : List Step). P (512 * ready.seen.sectors) l) (sym is.steps) (lies ready.seen ready.plan is.well_formed)))
+
+  -- both hashes, where the disk tells
+  copied_of : {T : Type 0} (told : Option (List Stored)) (bytes : List ℕ) (old new : List Made) (fault : ApplyFault) → IsLawful (history_of bytes new)
+      → (founds : List Found) × MakesSteps ready.plan (outside_of told ready.paths (Some bytes)) (steps ready.plan ready.seen) founds old new (Err {T = T} fault)
+      → length (shown (history_of bytes old)) ≡ 512 * ready.seen.sectors → IfChanged fault (λ planned copied.
+      Any (λ noted. ShowsOther ready.plan (shown (history_of bytes new)) planned copied noted.1.role) (noted_of ready.plan))
+  copied_of told bytes old new DiskFault lawful m long = tt
+  copied_of told bytes old new SourceFault lawful m long = tt
+  copied_of told bytes old new (SourceChanged planned copied) lawful m long =
+      let all = steps ready.plan ready.seen in
+      let lie = lies ready.seen ready.plan is.well_formed in
+      shown_among ready.seen ready.plan is.well_formed (shown (history_of bytes new)) planned copied
+      (stopped_shown ready.plan (outside_of told ready.paths (Some bytes)) bytes refl m.0 all planned copied old new m.1.found_are
+      (can_make ready.paths ready.seen ready.plan is.well_formed (subst (λ (l : List Step). All (NamesPath ready.paths) l) is.steps is.paths))
+      (subst (λ (n : ℕ). AllLieIn ready.plan n all) (sym long) lie) lawful m.1.changed)
+
+  pub told_of : {T : Type 0} (told : Option (List Stored)) (first : Option (List ℕ)) (old new : List Made) (result : Result T ApplyFault)
+      → IfSome (history_told first new) IsLawful → Makes told first old new result → TellsShown ready first old new result
+  told_of told None old new result lawful makes = tt
+  told_of told (Some bytes) old new (Ok value) lawful makes = λ long. tt
+  told_of told (Some bytes) old new (Err fault) lawful makes = λ long.
+      copied_of told bytes old new fault lawful (of_plan told (Some bytes) old new (Err fault) makes) long

@@ -23,7 +23,9 @@ use Rattle.rp_step.specs.Made.{HasOtherRoot, HasRoot}
 use Rattle.rp_step.specs.Run.{HaveRoots, StopsAtRoot}
 use Rattle.rp_step.specs.Sourced.{sources_in}
 use Rattle.rp_step.proofs.Tied.{AreLaid, IsLaid, blocks_are, shown_after, tied}
-use Rattle.rp_apply.specs.Commits.{HasOther, HasPlannedRoot, HavePlannedRoots, root_over}
+use Rattle.rp_apply.specs.Commits.{HasOther, HasPlannedRoot, HavePlannedRoots, ShowsOther, root_over}
+use Rattle.rp_step.specs.Run.{shown_root}
+use Rattle.rp_step.proofs.Stopping.{ShowsOtherStep}
 use Rattle.rp_apply.proofs.Can.{IsRow, are_rows, partner_at}
 use Rattle.rp_apply.proofs.Every.{every_step}
 use Rattle.rp_apply.proofs.Parts.{OfRange, payload_each, zeros_each}
@@ -233,3 +235,33 @@ module _ (seen : Seen) (plan : Plan) (formed : IsWellFormed seen plan) where
         let noted = get_or (noted_of plan) k d in
         let trees = of_each_new (HasPlanned plan sources) (λ n. tree_steps plan.goal.rows n.0 n.1.role) (noted_of plan) (trees_planned all) in
         role_planned noted noted.1.role refl (are_rows seen plan formed k d below) (trees k d below)
+
+  -- a tree over shown bytes with another root hash is that of a row
+  shown_role : (image planned copied : List ℕ) (data_at blocks : ℕ) (salt root : List ℕ) (role : Role) → IsTreeOf plan data_at blocks salt root role
+      → (planned ≡ root) × (copied ≡ shown_root image data_at blocks salt) × (copied ≢ planned) → ShowsOther plan image planned copied role
+  shown_role image planned copied data_at blocks salt root (Hash partner count its uuid own) of other =
+      (other.0 ∙ of.3, other.1 ∙ (λ i. shown_root image (of.0 i) (of.1 i) (of.2 i)), other.2)
+  shown_role image planned copied data_at blocks salt root Plain of other = absurd of
+  shown_role image planned copied data_at blocks salt root (Data partner hash) of other = absurd of
+
+  shown_row : (image planned copied : List ℕ) (step : Step) → IsOfRow plan step → ShowsOtherStep image planned copied step
+      → Any (λ (noted : Noted). ShowsOther plan image planned copied noted.1.role) (noted_of plan)
+  shown_row image planned copied (Tree data_at hash_at blocks salt uuid root) of other =
+      (of.0, of.1, of.2, of.3, shown_role image planned copied data_at blocks salt root of.1.1.role of.4 other)
+  shown_row image planned copied (Grow len) of other = absurd other
+  shown_row image planned copied (Zero at len) of other = absurd other
+  shown_row image planned copied (Copy file at len) of other = absurd other
+  shown_row image planned copied ClosePrimary of other = absurd other
+  shown_row image planned copied ArrayPrimary of other = absurd other
+  shown_row image planned copied HeaderPrimary of other = absurd other
+  shown_row image planned copied CloseBackup of other = absurd other
+  shown_row image planned copied ArrayBackup of other = absurd other
+  shown_row image planned copied HeaderBackup of other = absurd other
+  shown_row image planned copied Mbr of other = absurd other
+  shown_row image planned copied Sync of other = absurd other
+
+  pub shown_among : (image planned copied : List ℕ) → Any (ShowsOtherStep image planned copied) (steps plan seen)
+      → Any (λ (noted : Noted). ShowsOther plan image planned copied noted.1.role) (noted_of plan)
+  shown_among image planned copied any =
+      let of : IsOfRow plan any.1 = subst (IsOfRow plan) any.3 (of_rows any.0 any.1 any.2) in
+      shown_row image planned copied any.1 of any.4

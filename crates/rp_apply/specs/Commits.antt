@@ -25,6 +25,7 @@ use Rattle.rp_steps.specs.Steps.{byte_of_slot}
 use Rattle.rp_verity.specs.Filled.{cut}
 use Rattle.rp_verity.specs.Tree.{root_hash}
 use Rattle.rp_step.specs.Made.{IfChanged}
+use Rattle.rp_step.specs.Run.{shown_root}
 use Rattle.rp_step.specs.Sourced.{sources_in}
 use Rattle.rp_step.specs.declared.fault.ApplyFault.{ApplyFault}
 use Rattle.rp_apply.specs.declared.ready.Ready.{Ready}
@@ -69,6 +70,18 @@ pub record ChangesAt {T : Type 0} (plan : Plan) (sources : Sources) (result : Re
 abbrev pub ChangesAtRoots : {T : Type 0} → Ready → List Stored → Option (List ℕ) → List Made → Result T ApplyFault → Type 0
 ChangesAtRoots ready files first old result = IfSome (history_told first old) (λ h.
     length (shown h) ≡ 512 * ready.seen.sectors → ChangesAt ready.plan (sources_of ready files) result)
+
+-- a row holds a tree that is planned with this root hash, and the bytes that an image shows of its partner's blocks have this other
+abbrev pub ShowsOther : Plan → List ℕ → List ℕ → List ℕ → Role → Type 0
+ShowsOther plan image planned copied (Hash partner blocks salt uuid root) =
+    (planned ≡ root) × (copied ≡ shown_root image (byte_of_slot plan.goal.rows partner) blocks salt) × (copied ≢ planned)
+ShowsOther plan image planned copied other = ⊥
+
+-- where a source has changed, both hashes are told: the planned one, and that of the bytes that are shown
+abbrev pub TellsShown : {T : Type 0} → Ready → Option (List ℕ) → List Made → List Made → Result T ApplyFault → Type 0
+TellsShown ready first old new result = IfSome first (λ bytes.
+    length (shown (history_of bytes old)) ≡ 512 * ready.seen.sectors → IfErr result (λ fault. IfChanged fault (λ planned copied.
+    Any (λ noted. ShowsOther ready.plan (shown (history_of bytes new)) planned copied noted.1.role) (noted_of ready.plan))))
 
 -- where each tree is planned with its root hash and no count rises, the answer is Ok
 abbrev pub IsComplete : {T : Type 0} → Ready → List Stored → Option (List ℕ) → List Made → ℕ → ℕ → ℕ → ℕ → Result T ApplyFault → Type 0

@@ -5,7 +5,7 @@ ghost use Rattle.rp_step.specs.Causes.{HasDiskCause, HasSourceCause};
 ghost use Rattle.rp_step.specs.Found.{Found, HasFile, outside_of};
 ghost use Rattle.rp_step.specs.Run.{AllLieIn, MakesSteps};
 ghost use Rattle.rp_steps.specs.Writes.{writes as writes_in};
-ghost use Rattle.rp_apply.specs.Commits.{AnyMomentIsSafe, ChangesAtRoots, EndsFinal, IsComplete, MakesPlanned};
+ghost use Rattle.rp_apply.specs.Commits.{AnyMomentIsSafe, ChangesAtRoots, EndsFinal, IsComplete, MakesPlanned, TellsShown};
 ghost use Rattle.rp_apply.specs.Ready.{IsReady};
 ghost use Rattle.rp_region.specs.Region.{IsLeased};
 
@@ -39,6 +39,9 @@ pub fn commit<D: Disk, S: Sources>(
     // No call goes past the end of a disk as long as it was seen, nor of a file that has the bytes.
     ensures disk_strays { IfSome (history_told (D.first disk.old) (D.calls disk.old)) (λ h. length (shown h) ≡ 512 * ready.seen.sectors → D.strays disk.new ≡ D.strays disk.old) }
     ensures source_strays { IfSome (S.told sources.old) (λ files. All (HasFile files ready.paths) ready.steps → S.strays sources.new ≡ S.strays sources.old) }
+
+    // Where the disk tells, whatever the sources do.
+    ensures copied { TellsShown ready (D.first disk.old) (D.calls disk.old) (D.calls disk.new) result }
 
     // Where both tell: they are the calls of the plan, and a source has changed exactly where a tree's root isn't the planned one.
     ensures planned { IfSome (S.told sources.old) (λ files. MakesPlanned ready files (D.first disk.old) (D.calls disk.old) (D.calls disk.new) result) }

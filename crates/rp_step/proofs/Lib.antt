@@ -5,4 +5,5 @@ pub mod Kept
 pub mod Lengths
 pub mod Leveled
 pub mod Single
+pub mod Stopping
 pub mod Tied

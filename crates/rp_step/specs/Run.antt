@@ -1,5 +1,6 @@
 -- What making many steps makes of a disk: own rules.
-use Rattle.std.specs.Prelude.{ℕ, ◌≡◌, ◌⊎◌, ◌++◌, List, [], ◌∷◌, Result, IfErr, OnOk, ⊤}
+use Rattle.std.specs.Prelude.{ℕ, ◌≡◌, ◌⊎◌, ◌*◌, ◌++◌, List, [], ◌∷◌, Result, IfErr, OnOk, ⊤}
+use Rattle.rp_base.specs.Image.{bytes_at}
 use Rattle.rp_base.specs.declared.plan.Plan.{Plan}
 use Rattle.rp_disk.specs.Made.{Made, dones}
 use Rattle.rp_disk.specs.Runs.{Runs}
@@ -8,6 +9,8 @@ use Rattle.rp_step.specs.Made.{HasOtherRoot, HasRoot, IfChanged}
 use Rattle.rp_step.specs.declared.fault.ApplyFault.{ApplyFault}
 use Rattle.rp_steps.specs.declared.step.Step.{Step}
 use Rattle.rp_steps.specs.declared.step.Step.TheVariants.{Grow}
+use Rattle.rp_verity.specs.Filled.{cut}
+use Rattle.rp_verity.specs.Tree.{root_hash}
 
 -- each tree among steps has its planned root hash
 abbrev pub HaveRoots : List Found → List Step → Type 0
@@ -42,3 +45,7 @@ size_after size other = size
 abbrev pub AllLieIn : Plan → ℕ → List Step → Type 0
 AllLieIn plan size [] = ⊤
 AllLieIn plan size (step ∷ steps) = LiesIn plan size step × AllLieIn plan (size_after size step) steps
+
+-- the root hash of the tree over the bytes that an image shows at a place
+abbrev pub shown_root : List ℕ → ℕ → ℕ → List ℕ → List ℕ
+shown_root image at blocks salt = root_hash salt (cut blocks (bytes_at image at (4096 * blocks)))

@@ -1,4 +1,4 @@
-use Rattle.rp_apply.proofs.Committed.{any_moment_of, changed_of, complete_of, ended_of, planned_of, strays_of}
+use Rattle.rp_apply.proofs.Committed.{any_moment_of, changed_of, complete_of, ended_of, planned_of, strays_of, told_of}
 use Rattle.rp_apply.proofs.commit.commit.Goals as goal
 
 pub returns-clause-planned : goal.returns-clause-planned
@@ -19,3 +19,7 @@ returns-clause-any_moment g c = any_moment_of c.args.ready c.requires _ _ _ _ c.
 
 pub returns-clause-disk_strays : goal.returns-clause-disk_strays
 returns-clause-disk_strays g c = strays_of c.args.ready c.requires _ _ _ _ c.carry_out.ensures.disk_strays
+
+pub returns-clause-copied : goal.returns-clause-copied
+returns-clause-copied g c =
+    told_of c.args.ready c.requires _ _ _ _ c.carry_out.result (rw c.carry_out.ensures.first at (g.met.D.Disk.lawful c.carry_out.new.disk)) c.carry_out.ensures.made
