@@ -70,6 +70,10 @@ goes_on plan (found ∷ founds) (step ∷ steps) planned copied old new (inl her
   at Mbr other = absurd other
   at Sync other = absurd other
 
+hashes-are : (tree : TreePlan) (taken : List (List ℕ)) → Each IsWrite (hash_calls tree taken)
+unfolding tree_writes
+hashes-are tree taken = writes-are tree.hash_at (placed (stored_tree tree.salt taken) (order tree.blocks))
+
 -- hash blocks lie apart from the data
 data_apart : (tree : TreePlan) (taken : List (List ℕ)) → IsTreePlan tree → AreBlocks tree.blocks taken
     → Each (Apart tree.data_at (4096 * tree.blocks)) (hash_calls tree taken)
@@ -103,10 +107,6 @@ module _ (plan : Plan) (outside : Outside) (first : List ℕ) (shows : outside.f
       same_range data_at (4096 * blocks) (Some first) made new (hash_calls tree found.blocks) other.3
       (hashes-are tree found.blocks) (data_apart tree found.blocks can is.0) lawful lies.0 in
       (other.0, other.1 ∙ ap (root_hash salt) (taken ∙ ap (cut blocks) (sym still)), other.2)
-    where
-      hashes-are : (tree : TreePlan) (taken : List (List ℕ)) → Each IsWrite (hash_calls tree taken)
-      unfolding tree_writes
-      hashes-are tree taken = writes-are tree.hash_at (placed (stored_tree tree.salt taken) (order tree.blocks))
   one found (Grow len) planned copied made new is can lies lawful other = absurd other
   one found (Zero at len) planned copied made new is can lies lawful other = absurd other
   one found (Copy file at len) planned copied made new is can lies lawful other = absurd other
