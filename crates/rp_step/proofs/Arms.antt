@@ -1,13 +1,14 @@
 -- From what a step is made of to the step.
-use Rattle.std.proofs.Common.{◌≡◌, ◌≢◌, ℕ, ◌≤◌, List, [], ◌∷◌, ◌++◌, Option, Some, None, Result, Ok, Err, refl, sym, ◌∙◌, subst}
+use Rattle.std.proofs.Common.{◌≡◌, ◌≢◌, ℕ, ◌≤◌, List, [], ◌∷◌, ◌++◌, Option, Some, None, Result, Ok, Err, refl, sym, ◌∙◌, subst, append-nil}
 use Rattle.rp_base.specs.Faults.{HasCause}
 use Rattle.rp_base.specs.declared.faults.Failed.{Failed}
 use Rattle.rp_base.specs.declared.guid.Guid.{Guid}
 use Rattle.rp_base.specs.declared.plan.Plan.{Plan}
-use Rattle.rp_disk.specs.Made.{Made, dones}
+use Rattle.rp_disk.specs.Made.{Made, Makes, dones}
 use Rattle.rp_disk.specs.Runs.{Runs}
+use Rattle.rp_disk.specs.declared.call.Call.{Call}
 use Rattle.rp_disk.specs.declared.call.Call.TheVariants.{Write}
-use Rattle.rp_disk.proofs.Runs.{are_all}
+use Rattle.rp_disk.proofs.Runs.{are_all, broke_off_in}
 use Rattle.rp_fill.specs.Causes as fill_causes
 use Rattle.rp_fill.specs.Copied.{IsCopyOf}
 use Rattle.rp_fill.specs.declared.fault.FillFault.{FillFault}
@@ -21,7 +22,7 @@ use Rattle.rp_steps.specs.declared.step.Step.TheVariants.{Grow, Zero, Copy, Tree
 use Rattle.rp_verity.specs.Superblock.{superblock}
 use Rattle.rp_step.specs.Answers.{from_disk, from_fill, from_tree}
 use Rattle.rp_step.specs.Causes.{HasDiskCause, HasSourceCause}
-use Rattle.rp_step.specs.Found.{Found, IsFixed, IsFound, Outside, calls_with, nothing_found, tree_of}
+use Rattle.rp_step.specs.Found.{CanMake, Found, IsFixed, IsFound, Outside, calls_with, nothing_found, tree_of}
 use Rattle.rp_step.specs.Made.{HasRoot, MakesStep}
 use Rattle.rp_step.specs.Sourced.{path_at}
 
@@ -94,6 +95,27 @@ fixed_made plan outside step old new (Ok value) fixed runs =
     (nothing_found, record { found_is = fixed_found outside old step fixed; ran = record { ok = runs.ok; err = tt }; root = fixed_root step fixed; changed = tt })
 fixed_made plan outside step old new (Err failed) fixed runs =
     (nothing_found, record { found_is = fixed_found outside old step fixed; ran = record { ok = tt; err = runs.err }; root = tt; changed = tt })
+
+-- what is neither a copy nor a tree
+pub fixed_of : (paths : List (List ℕ)) (step : Step) → CanMake paths step → ((file at len : ℕ) → step ≡ Copy file at len → ⊥)
+    → ((data_at hash_at blocks : ℕ) (salt : List ℕ) (uuid : Guid) (root : List ℕ) → step ≡ Tree data_at hash_at blocks salt uuid root → ⊥) → IsFixed step
+fixed_of paths (Copy file at len) can copy tree = absurd (copy file at len refl)
+fixed_of paths (Tree data_at hash_at blocks salt uuid root) can copy tree = absurd (tree data_at hash_at blocks salt uuid root refl)
+fixed_of paths (Zero at len) can copy tree = can
+fixed_of paths (Grow len) can copy tree = tt
+fixed_of paths ClosePrimary can copy tree = tt
+fixed_of paths ArrayPrimary can copy tree = tt
+fixed_of paths HeaderPrimary can copy tree = tt
+fixed_of paths CloseBackup can copy tree = tt
+fixed_of paths ArrayBackup can copy tree = tt
+fixed_of paths HeaderBackup can copy tree = tt
+fixed_of paths Mbr can copy tree = tt
+fixed_of paths Sync can copy tree = tt
+
+-- one call is a run of one
+pub one_call : {T E : Type 0} (old new : List Made) (call : Call) (answer : Result T E) → Makes old call new answer → Runs old (call ∷ []) new answer
+one_call old new call (Ok value) makes = record { ok = makes.ok; err = tt }
+one_call old new call (Err fault) makes = record { ok = tt; err = broke_off_in old old new [] call [] (call ∷ []) refl (sym (append-nil old)) makes.err }
 
 -- a copy
 

@@ -23,3 +23,30 @@ loop-step-init g c = record {
   disk_strays = lie_none _ _ _ _ _;
   source_strays = still _ _ _;
 }
+
+pub loop-step-preserved : goal.loop-step-preserved
+loop-step-preserved g c =
+    let i = c.loop-step.invariant in
+    let below = c.loop-step-test.true in
+    let makes = c.in_ok-make_step.ensures.made in
+    let lawful : IfSome (history_told (g.D.Disk.first c.args.disk.now) (g.D.Disk.calls c.make_step.new.disk)) IsLawful =
+    rw i.first at (rw c.make_step.ensures.first at (g.met.D.Disk.lawful c.make_step.new.disk)) in
+    record {
+      stocked = c.make_step.ensures.stocked;
+      first = c.make_step.ensures.first ∙ i.first;
+      told = c.make_step.ensures.told ∙ i.told;
+      disk_faults = c.in_ok-make_step.ensures.disk_cause ∙ i.disk_faults;
+      source_faults = c.in_ok-make_step.ensures.source_cause ∙ i.source_faults;
+      so_far = so_far_at _ _ c.args.steps.now c.loop-step.step-index _ makes.0 _ _ _ _ below i.so_far (rw (i.first, i.told) at makes.1);
+      disk_strays = lie_more _ _ makes.0 c.args.steps.now _ _ _ _ _ _ _ _ (rw (drop_next c.args.steps.now c.loop-step.step-index _ below) at i.disk_strays)
+          makes.1.ran.ok lawful (rw i.first at c.make_step.ensures.disk_strays);
+      source_strays = search rules;
+    }
+
+pub returns-clause-made : goal.returns-clause-made
+returns-clause-made g c =
+    let all : take c.loop-step.step-index c.args.steps.now ≡ c.args.steps.now = take_all c.loop-step.step-index c.args.steps.now (omega arith) in
+    rw all at (all_made _ _ (take c.loop-step.step-index c.args.steps.now) _ _ _ c.loop-step.invariant.so_far)
+
+pub returns-clause-disk_strays : goal.returns-clause-disk_strays
+returns-clause-disk_strays g c = lie_all _ _ c.args.steps.now _ _ _ _ _ c.loop-step.invariant.disk_strays
