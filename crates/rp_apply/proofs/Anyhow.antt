@@ -1,12 +1,9 @@
 -- Whatever sources and data rows hold, the calls of a plan's steps are those that the law of every stop speaks of.
-use Rattle.std.proofs.Common.{◌≡◌, ◌≢◌, ℕ, ◌+◌, ◌*◌, ◌-◌, ◌<◌, ◌≤◌, inl, inr, Bool, true, false, cond, eqb, ltb, List, [], ◌∷◌, ◌++◌, length, get_or, filter, flat_map, map, replicate, refl, sym, ap, ap₂, ◌∙◌, subst, arith, All, append_assoc}
-use Rattle.std.proofs.lemmas.Grind.{flat_map-append}
-use Rattle.std.proofs.lemmas.List.{append-nil, length-append, length-replicate, map-append}
-use Rattle.std.proofs.lemmas.List.Elements.{All-append, All-cons, All-filter, All-head, All-nil, All-tail}
+use Rattle.std.proofs.Common.{◌≡◌, ◌≢◌, ℕ, ◌+◌, ◌*◌, ◌-◌, ◌<◌, ◌≤◌, Bool, true, false, ltb, List, [], ◌∷◌, ◌++◌, length, filter, flat_map, map, replicate, refl, sym, ap, ap₂, ◌∙◌, subst, arith, All, append_assoc}
+use Rattle.std.proofs.lemmas.List.{append-nil, length-replicate}
+use Rattle.std.proofs.lemmas.List.Elements.{All-append, All-cons, All-head, All-nil, All-tail}
 use Rattle.rp_base.specs.Plan.{IsWellFormed, Noted, noted_of}
-use Rattle.rp_base.specs.Trees.{hash_blocks}
 use Rattle.rp_base.specs.declared.geometry.Which.{Which}
-use Rattle.rp_base.specs.declared.geometry.Which.TheVariants.{Primary, Backup}
 use Rattle.rp_base.specs.declared.plan.Change.{Change}
 use Rattle.rp_base.specs.declared.plan.Change.TheVariants.{New, Changed, Same}
 use Rattle.rp_base.specs.declared.plan.Plan.{Plan}
@@ -17,10 +14,10 @@ use Rattle.rp_disk.specs.Blocks.{flat}
 use Rattle.rp_disk.specs.Made.{Made, dones}
 use Rattle.rp_disk.specs.Stops.{Each}
 use Rattle.rp_disk.specs.declared.call.Call.{Call}
-use Rattle.rp_disk.specs.declared.call.Call.TheVariants.{Write, SetLen, Sync as SyncCall}
+use Rattle.rp_disk.specs.declared.call.Call.TheVariants.{Sync as SyncCall}
 use Rattle.rp_disk.proofs.Blocks.{Each-imp, flat-append}
 use Rattle.rp_step.specs.Found.{AreFound, Found, IsFound, Outside, all_calls, calls_with}
-use Rattle.rp_step.proofs.Going.{all_calls-append, dones_more}
+use Rattle.rp_step.proofs.Going.{dones_more}
 use Rattle.rp_steps.specs.Calls.{calls_of, calls_of_steps, in_pieces}
 use Rattle.rp_steps.specs.Contents.{NotesFit, RoleFits, Sources}
 use Rattle.rp_steps.specs.Planned.{HasRoom}
@@ -31,7 +28,7 @@ use Rattle.rp_steps.proofs.Copying.{part_added}
 use Rattle.rp_steps.proofs.Made.{calls-synced, copies_as, growth_as, mbr_part, order_is}
 use Rattle.rp_steps.proofs.Written.{Each-append}
 use Rattle.rp_stops.specs.Order as stops
-use Rattle.rp_stops.specs.Order.{AreCallsOf, contents_blocks, copy_blocks}
+use Rattle.rp_stops.specs.Order.{AreCallsOf, contents_blocks}
 use Rattle.rp_stops.specs.Rows.{IsInNewRow, IsInside}
 use Rattle.rp_apply.proofs.Can.{IsRow, are_rows, role_fits}
 use Rattle.rp_apply.proofs.Every.{Everywhere, copies, grown, mbr}

@@ -14,7 +14,7 @@ use Rattle.rp_base.specs.declared.plan.Role.{Role}
 use Rattle.rp_base.specs.declared.plan.Role.TheVariants.{Plain, Data, Hash}
 use Rattle.rp_base.specs.declared.seen.Seen.{Seen}
 use Rattle.rp_base.specs.declared.table.Row.{Row}
-use Rattle.rp_format.specs.Written.{IsTreePlan, data_end, hash_end}
+use Rattle.rp_format.specs.Written.{IsTreePlan}
 use Rattle.rp_step.specs.Found.{CanMake, tree_of}
 use Rattle.rp_steps.specs.Contents.{NotesFit, RoleFits}
 use Rattle.rp_steps.specs.Planned.{HasRoom, IsPlanned}

@@ -1,12 +1,11 @@
 -- The clauses of `commit`, from what is known of the calls.
-use Rattle.std.proofs.Common.{◌≡◌, ℕ, ◌*◌, List, length, Option, Some, None, Result, Ok, Err, OnOk, refl, sym, ap, ◌∙◌, subst}
+use Rattle.std.proofs.Common.{◌≡◌, ℕ, ◌*◌, List, length, Option, Some, None, Result, Ok, Err, OnOk, refl, sym, ◌∙◌, subst}
 use Rattle.std.specs.Prelude.{IfSome}
 use Rattle.std.specs.Prelude.{All, Any}
 use Rattle.rp_base.specs.Plan.{noted_of}
 use Rattle.rp_disk.specs.History.{IsLawful, shown}
 use Rattle.rp_disk.specs.Made.{Made, history_of, history_told}
 use Rattle.rp_io.specs.declared.stored.Stored.{Stored}
-use Rattle.rp_steps.specs.Calls.{calls}
 use Rattle.rp_steps.specs.Steps.{steps}
 use Rattle.rp_steps.specs.declared.step.Step.{Step}
 use Rattle.rp_stops.proofs.Carried.{plan-given}

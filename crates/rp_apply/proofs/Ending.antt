@@ -1,11 +1,10 @@
 -- What carrying out a plan leaves of a disk that tells, over sources that tell.
-use Rattle.std.proofs.Common.{◌≡◌, ℕ, ◌*◌, List, [], ◌∷◌, ◌++◌, length, Option, Some, None, Result, Ok, Err, OnOk, refl, sym, ap, ◌∙◌, subst, append_assoc}
+use Rattle.std.proofs.Common.{◌≡◌, ℕ, ◌*◌, List, [], ◌∷◌, ◌++◌, length, Option, Some, None, Result, refl, sym, ap, ◌∙◌, subst, append_assoc}
 use Rattle.std.specs.Prelude.{IfSome}
 use Rattle.rp_base.specs.Plan.{IsWellFormed}
 use Rattle.rp_base.specs.declared.plan.Plan.{Plan}
 use Rattle.rp_base.specs.declared.seen.Seen.{Seen}
 use Rattle.rp_disk.specs.Blocks.{flat}
-use Rattle.rp_disk.specs.Calls.{all_done}
 use Rattle.rp_disk.specs.History.{History, IsSettled, LeftSince, all_did, moment, shown}
 use Rattle.rp_disk.specs.Made.{Made, dones, history_of}
 use Rattle.rp_disk.specs.Runs.{Runs}

@@ -1,8 +1,8 @@
 -- What the answer of carrying out a plan says.
-use Rattle.std.proofs.Common.{◌≡◌, ℕ, ◌*◌, List, length, get_or, Option, Some, None, Result, Ok, Err, refl, sym, ◌∙◌, subst, All}
-use Rattle.std.specs.Prelude.{Any, IsOk}
+use Rattle.std.proofs.Common.{◌≡◌, ℕ, ◌*◌, List, length, Some, Result, Ok, Err, refl, sym, ◌∙◌, subst}
+use Rattle.std.specs.Prelude.{IsOk}
 use Rattle.rp_base.specs.Faults.{Rose}
-use Rattle.rp_base.specs.Plan.{IsWellFormed, Noted, noted_of}
+use Rattle.rp_base.specs.Plan.{IsWellFormed, Noted}
 use Rattle.rp_base.specs.declared.plan.Plan.{Plan}
 use Rattle.rp_base.specs.declared.plan.Role.{Role}
 use Rattle.rp_base.specs.declared.plan.Role.TheVariants.{Plain, Data, Hash}

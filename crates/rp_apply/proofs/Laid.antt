@@ -1,16 +1,13 @@
 -- When the steps of a plan reach a tree, its data row holds its source.
-use Rattle.std.proofs.Common.{◌≡◌, ◌≢◌, ℕ, ◌+◌, ◌*◌, ◌-◌, ◌/◌, ◌<◌, ◌≤◌, ◌⊎◌, replicate, inl, inr, Bool, true, false, cond, ltb, List, [], ◌∷◌, ◌++◌, length, get_or, filter, flat_map, refl, sym, ap, ap₂, ◌∙◌, subst, arith, All, append_assoc}
+use Rattle.std.proofs.Common.{◌≡◌, ◌≢◌, ℕ, ◌+◌, ◌*◌, ◌-◌, ◌/◌, ◌<◌, ◌≤◌, ◌⊎◌, replicate, inl, inr, Bool, true, false, cond, ltb, List, [], ◌∷◌, ◌++◌, length, get_or, flat_map, refl, sym, ap, ap₂, ◌∙◌, subst, arith, All}
 use Rattle.std.proofs.lemmas.Bool.{ltb-false}
 use Rattle.std.proofs.lemmas.Grind.{flat_map-append}
-use Rattle.std.proofs.lemmas.List.{append-nil, get_or_default, length-replicate}
-use Rattle.std.proofs.lemmas.List.Elements.{All-append, All-cons, All-filter, All-head, All-nil, All-tail}
+use Rattle.std.proofs.lemmas.List.{get_or_default, length-replicate}
+use Rattle.std.proofs.lemmas.List.Elements.{All-append, All-filter, All-head, All-nil, All-tail}
 use Rattle.rp_base.specs.Image.{bytes_at, range_of}
-use Rattle.rp_base.specs.Plan.{IsPair, IsWellFormed, Noted, noted_of}
+use Rattle.rp_base.specs.Plan.{IsWellFormed, Noted, noted_of}
 use Rattle.rp_base.specs.Table.{AreApart}
 use Rattle.rp_base.specs.Trees.{hash_blocks}
-use Rattle.rp_base.specs.declared.geometry.Which.{Which}
-use Rattle.rp_base.specs.declared.geometry.Which.TheVariants.{Primary, Backup}
-use Rattle.rp_base.specs.declared.guid.Guid.{Guid}
 use Rattle.rp_base.specs.declared.plan.Change.TheVariants.{New}
 use Rattle.rp_base.specs.declared.plan.Plan.{Plan}
 use Rattle.rp_base.specs.declared.plan.Role.{Role}
@@ -28,13 +25,13 @@ use Rattle.rp_disk.proofs.Ranges.{bytes_at-all_done, length-all_done}
 use Rattle.rp_steps.specs.Calls.{calls_of, calls_of_steps}
 use Rattle.rp_steps.specs.Contents.{NotesFit, RoleFits, Sources, contents, contents_as, payload, payload_at}
 use Rattle.rp_steps.specs.Planned.{HasRoom}
-use Rattle.rp_steps.specs.Steps.{byte_count, byte_of_slot, contents_steps, copy_phases, from_byte, growth, is_new, mbr_phases, new_rows, payload_steps, phase_of, phases, steps, synced, tree_steps, written_copies, zero_steps}
+use Rattle.rp_steps.specs.Steps.{byte_count, byte_of_slot, contents_steps, copy_phases, from_byte, growth, is_new, mbr_phases, new_rows, payload_steps, phase_of, phases, steps, synced, tree_steps, written_copies}
 use Rattle.rp_steps.specs.declared.step.Step.{Step}
 use Rattle.rp_steps.specs.declared.step.Step.TheVariants.{Grow, Zero, Copy, Tree, ClosePrimary, ArrayPrimary, HeaderPrimary, CloseBackup, ArrayBackup, HeaderBackup, Mbr, Sync}
 use Rattle.rp_steps.proofs.Contented.{are_in_new_rows, contents_hold}
 use Rattle.rp_steps.proofs.Copying.{part_added}
 use Rattle.rp_steps.proofs.Rowed.{HasFile, has_file, row_fill}
-use Rattle.rp_steps.proofs.Written.{Each-append, Writes, inside_writes}
+use Rattle.rp_steps.proofs.Written.{Each-append, Writes}
 use Rattle.rp_stops.specs.Rows.{HoldContents, IsInNewRow, IsInside}
 use Rattle.rp_verity.specs.Filled.{cut}
 use Rattle.rp_step.proofs.Tied.{AreLaid, IsLaid}
@@ -42,7 +39,7 @@ use Rattle.rp_apply.proofs.Can.{IsRow, are_rows, partner_at, role_fits, row_insi
 use Rattle.rp_apply.proofs.Every.{Everywhere, copies, grown, mbr}
 use Rattle.rp_apply.proofs.Inside.{inside_row}
 use Rattle.rp_apply.proofs.Parts.{OfRange, payload_each, zeros_each}
-use Rattle.rp_apply.proofs.Partners.{Partner, payload_of_row}
+use Rattle.rp_apply.proofs.Partners.{payload_of_row}
 
 -- a step that writes no tree
 abbrev pub IsNoTree : Step → Type 0

@@ -2,8 +2,7 @@
 use Rattle.std.proofs.Common.{◌≡◌, ℕ, ◌+◌, ◌*◌, ◌<◌, ◌≤◌, Bool, true, false, cond, ltb, List, [], ◌∷◌, ◌++◌, flat_map, refl, sym, ap, ◌∙◌, subst, arith, All, append_assoc}
 use Rattle.std.proofs.lemmas.Bool.{ltb-false}
 use Rattle.std.proofs.lemmas.List.Elements.{All-cons, All-head, All-nil, All-tail}
-use Rattle.rp_base.specs.Plan.{IsWellFormed, Noted, noted_of}
-use Rattle.rp_base.specs.Trees.{hash_blocks}
+use Rattle.rp_base.specs.Plan.{IsWellFormed, Noted}
 use Rattle.rp_base.specs.declared.plan.Plan.{Plan}
 use Rattle.rp_base.specs.declared.plan.Role.{Role}
 use Rattle.rp_base.specs.declared.plan.Role.TheVariants.{Plain, Data, Hash}
@@ -11,9 +10,9 @@ use Rattle.rp_base.specs.declared.seen.Seen.{Seen}
 use Rattle.rp_step.specs.Found.{LiesIn}
 use Rattle.rp_step.specs.Run.{AllLieIn, size_after}
 use Rattle.rp_steps.specs.Planned.{HasRoom}
-use Rattle.rp_steps.specs.Steps.{byte_count, byte_of_slot, contents_steps, copy_phases, from_byte, growth, mbr_phases, payload_steps, phase_of, phases, steps, synced, tree_steps, written_copies}
+use Rattle.rp_steps.specs.Steps.{byte_count, byte_of_slot, contents_steps, copy_phases, from_byte, growth, mbr_phases, phase_of, phases, steps, synced, tree_steps, written_copies}
 use Rattle.rp_steps.specs.declared.step.Step.{Step}
-use Rattle.rp_steps.specs.declared.step.Step.TheVariants.{Grow, Tree, Sync}
+use Rattle.rp_steps.specs.declared.step.Step.TheVariants.{Grow, Tree}
 use Rattle.rp_apply.proofs.Can.{IsRow, are_rows, partner_at, row_inside}
 use Rattle.rp_apply.proofs.Every.{every_step}
 use Rattle.rp_apply.proofs.Parts.{OfRange, payload_each, zeros_each}

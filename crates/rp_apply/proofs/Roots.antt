@@ -1,5 +1,5 @@
 -- The root hashes of a plan's trees, where sources and disk tell.
-use Rattle.std.proofs.Common.{◌≡◌, ◌≢◌, ℕ, suc, ◌+◌, ◌*◌, ◌<◌, ◌≤◌, ◌⊎◌, inl, inr, Bool, true, false, cond, filter, flat_map, List, [], ◌∷◌, ◌++◌, length, get_or, Option, Some, refl, sym, ap, ◌∙◌, subst, arith, All}
+use Rattle.std.proofs.Common.{◌≡◌, ◌≢◌, ℕ, suc, ◌+◌, ◌*◌, ◌<◌, ◌≤◌, ◌⊎◌, inl, inr, Bool, true, false, cond, filter, flat_map, List, [], ◌∷◌, ◌++◌, get_or, Some, refl, sym, ap, ◌∙◌, subst, arith, All}
 use Rattle.std.specs.Prelude.{Any}
 use Rattle.std.proofs.lemmas.List.Elements.{All-cons, All-head, All-nil, All-tail}
 use Rattle.rp_base.specs.Plan.{IsWellFormed, Noted, noted_of}
@@ -12,7 +12,6 @@ use Rattle.rp_disk.specs.Calls.{all_done}
 use Rattle.rp_disk.specs.History.{shown}
 use Rattle.rp_disk.specs.Made.{Made, dones, history_of}
 use Rattle.rp_io.specs.declared.stored.Stored.{Stored}
-use Rattle.rp_steps.specs.Calls.{calls_of}
 use Rattle.rp_steps.specs.Contents.{Sources}
 use Rattle.rp_steps.specs.Steps.{byte_count, byte_of_slot, contents_steps, copy_phases, from_byte, growth, is_new, mbr_phases, new_rows, phase_of, phases, steps, synced, tree_steps, written_copies}
 use Rattle.rp_steps.specs.declared.step.Step.{Step}

@@ -1,10 +1,7 @@
 -- What carrying out a plan makes of a disk: own rules.
 use Rattle.std.specs.Prelude.{ℕ, ◌≡◌, ◌≢◌, ◌*◌, List, All, Any, length, Option, IfSome, Result, IfErr, IsOk, OnOk, ⊤}
 use Rattle.rp_base.specs.Faults.{Rose}
-use Rattle.rp_base.specs.Plan.{Fits, Noted, noted_of}
-use Rattle.rp_base.specs.Table.{TableFits}
-use Rattle.rp_base.specs.declared.guid.Guid.{Guid}
-use Rattle.rp_base.specs.declared.plan.Change.TheVariants.{New}
+use Rattle.rp_base.specs.Plan.{noted_of}
 use Rattle.rp_base.specs.declared.plan.Plan.{Plan}
 use Rattle.rp_base.specs.declared.plan.Role.{Role}
 use Rattle.rp_base.specs.declared.plan.Role.TheVariants.{Hash}
@@ -17,7 +14,7 @@ use Rattle.rp_io.specs.declared.stored.Stored.{Stored}
 use Rattle.rp_stops.specs.Final.{IsFinal}
 use Rattle.rp_stops.specs.Honest.{IsTornHonest}
 use Rattle.rp_stops.specs.Plans.{IsPlanFor, StopsAlone}
-use Rattle.rp_stops.specs.Rows.{Contents, Fills, IsInNewRow, grown}
+use Rattle.rp_stops.specs.Rows.{IsInNewRow, grown}
 use Rattle.rp_disk.specs.Stops.{Each}
 use Rattle.rp_steps.specs.Calls.{calls, contents_calls}
 use Rattle.rp_steps.specs.Contents.{Sources, contents, payload_at}

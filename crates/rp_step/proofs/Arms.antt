@@ -1,5 +1,5 @@
 -- From what a step is made of to the step.
-use Rattle.std.proofs.Common.{◌≡◌, ◌≢◌, ℕ, ◌≤◌, List, [], ◌∷◌, ◌++◌, Option, Some, None, Result, Ok, Err, refl, sym, ◌∙◌, subst, append-nil}
+use Rattle.std.proofs.Common.{◌≡◌, ◌≢◌, ℕ, ◌≤◌, List, [], ◌∷◌, ◌++◌, Option, Some, None, Result, Ok, Err, refl, sym, ◌∙◌, append-nil}
 use Rattle.rp_base.specs.Faults.{HasCause}
 use Rattle.rp_base.specs.declared.faults.Failed.{Failed}
 use Rattle.rp_base.specs.declared.guid.Guid.{Guid}
@@ -13,9 +13,8 @@ use Rattle.rp_fill.specs.Causes as fill_causes
 use Rattle.rp_fill.specs.Copied.{IsCopyOf}
 use Rattle.rp_fill.specs.declared.fault.FillFault.{FillFault}
 use Rattle.rp_fill.specs.declared.fault.FillFault.TheVariants.{Disk, Source}
-use Rattle.rp_format.specs.Written.{AreBlocks, AreShown, Writes, WritesTree, hash_calls, tree_calls}
+use Rattle.rp_format.specs.Written.{WritesTree, hash_calls}
 use Rattle.rp_format.proofs.Ends.{broke_before}
-use Rattle.rp_io.specs.declared.stored.Stored.{Stored}
 use Rattle.rp_steps.specs.Calls.{in_pieces}
 use Rattle.rp_steps.specs.declared.step.Step.{Step}
 use Rattle.rp_steps.specs.declared.step.Step.TheVariants.{Grow, Zero, Copy, Tree, ClosePrimary, ArrayPrimary, HeaderPrimary, CloseBackup, ArrayBackup, HeaderBackup, Mbr, Sync}

@@ -1,5 +1,5 @@
 -- The runs of copies begin with them.
-use Rattle.std.proofs.Common.{◌≡◌, ℕ, ◌+◌, ◌*◌, ◌≤◌, inl, inr, List, length, take, refl, sym, ap, ◌∙◌, subst, arith}
+use Rattle.std.proofs.Common.{◌≡◌, ℕ, ◌+◌, ◌*◌, ◌≤◌, inl, inr, length, take, refl, sym, ap, ◌∙◌, arith}
 use Rattle.rp_base.specs.Geometry.{AreEntries, IsSector, copy_bytes}
 use Rattle.rp_base.specs.declared.geometry.Which.{Which}
 use Rattle.rp_base.specs.declared.geometry.Which.TheVariants.{Primary, Backup}
@@ -7,7 +7,6 @@ use Rattle.rp_base.specs.declared.plan.Plan.{Plan}
 use Rattle.rp_gpt.specs.Copy.{exact}
 use Rattle.rp_gpt.proofs.ReadsBack.{length-exact}
 use Rattle.rp_pool.specs.Region.{IsOut, Run, bytes_of}
-use Rattle.rp_region.specs.Region.{backup_run, primary_run}
 use Rattle.rp_region.specs.declared.blocks.Blocks.{Blocks}
 use Rattle.rp_region.proofs.Held.{backup_out, backup_size, primary_out, primary_size}
 use Rattle.rp_stops.specs.Order.{target_sectors}

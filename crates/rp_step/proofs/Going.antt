@@ -1,16 +1,12 @@
 -- Steps that were made one after another.
-use Rattle.std.proofs.Common.{◌≡◌, ℕ, zero, suc, ◌+◌, ◌<◌, ◌⊎◌, inl, inr, List, [], ◌∷◌, ◌++◌, length, get_or, take, drop, Option, Some, None, Result, Ok, Err, refl, sym, ap, ◌∙◌, subst, arith, append_assoc, append-nil}
-use Rattle.std.specs.Prelude.{IfErr, IfSome, OnErr, OnOk, All}
-use Rattle.std.proofs.lemmas.List.{length-replicate}
-use Rattle.std.proofs.lemmas.List.FromFn.{length-map-range_with_len}
-use Rattle.rp_base.specs.Image.{bytes_at}
+use Rattle.std.proofs.Common.{◌≡◌, ℕ, zero, suc, ◌+◌, ◌<◌, ◌⊎◌, inl, inr, List, [], ◌∷◌, ◌++◌, length, get_or, take, drop, Result, Ok, Err, refl, sym, ap, ◌∙◌, subst, arith, append_assoc, append-nil}
 use Rattle.rp_base.specs.declared.plan.Plan.{Plan}
-use Rattle.rp_disk.specs.Made.{Made, dones, history_of}
-use Rattle.rp_disk.specs.Runs.{BrokeOff, Runs}
+use Rattle.rp_disk.specs.Made.{Made, dones}
+use Rattle.rp_disk.specs.Runs.{BrokeOff}
 use Rattle.rp_disk.specs.declared.call.Call.{Call}
 use Rattle.rp_disk.proofs.Runs.{broke_off_within, dones-append, more}
 use Rattle.rp_step.specs.Found.{AreFound, Found, IsFound, Outside, all_calls, calls_with}
-use Rattle.rp_step.specs.Made.{HasOtherRoot, HasRoot, IfChanged, MakesStep}
+use Rattle.rp_step.specs.Made.{HasOtherRoot, IfChanged, MakesStep}
 use Rattle.rp_step.specs.Run.{HaveRoots, MakesSteps, StopsAtRoot}
 use Rattle.rp_step.specs.declared.fault.ApplyFault.{ApplyFault}
 use Rattle.rp_step.specs.declared.fault.ApplyFault.TheVariants.{DiskFault, SourceFault, SourceChanged}

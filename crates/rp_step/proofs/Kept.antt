@@ -1,12 +1,12 @@
 -- A write to the run of a piece, or of a tree's levels, leaves both copies.
-use Rattle.std.proofs.Common.{◌≡◌, ◌≢◌, ℕ, ◌+◌, ◌*◌, ◌≤◌, List, length, take, drop, refl, sym, ap, ◌∙◌, subst, arith}
+use Rattle.std.proofs.Common.{◌≡◌, ◌≢◌, ℕ, ◌+◌, ◌*◌, ◌≤◌, List, length, take, refl, ap, ◌∙◌, arith}
 use Rattle.std.specs.Prelude.{slice_index}
 use Rattle.rp_base.specs.declared.geometry.Which.TheVariants.{Primary, Backup}
 use Rattle.rp_base.specs.declared.plan.Plan.{Plan}
 use Rattle.rp_gpt.specs.Copy.{exact}
 use Rattle.rp_pool.specs.Region.{IsOut, IsRegion, Region, Run, bytes_of, written}
 use Rattle.rp_pool.proofs.Public.{written_other}
-use Rattle.rp_region.specs.Region.{HoldsCopies, IsLeased, all_out, backup_run, levels_run, piece_run, primary_run}
+use Rattle.rp_region.specs.Region.{IsLeased, all_out, backup_run, levels_run, piece_run, primary_run}
 use Rattle.rp_region.specs.declared.blocks.Blocks.{Blocks}
 use Rattle.rp_region.proofs.Held.{backup_out, length-bytes_of, primary_out, region_written}
 use Rattle.rp_stops.specs.Order.{target_sectors}

@@ -1,6 +1,5 @@
 -- What one step finds.
 use Rattle.std.proofs.Common.{◌≡◌, ℕ, zero, suc, ◌+◌, ◌-◌, ◌*◌, ◌<◌, ◌≤◌, List, [], ◌∷◌, ◌++◌, length, map, take, replicate, Option, Some, None, refl, ap, ◌∙◌, arith, All, append-nil}
-use Rattle.std.specs.Prelude.{IfSome}
 use Rattle.std.specs.List.{range_with_len}
 use Rattle.std.proofs.lemmas.List.{length-replicate, take_all}
 use Rattle.std.proofs.lemmas.List.Elements.{All-cons, All-nil}
@@ -8,7 +7,7 @@ use Rattle.std.proofs.lemmas.List.FromFn.{length-map-range_with_len}
 use Rattle.rp_base.specs.Image.{bytes_at}
 use Rattle.rp_disk.specs.Calls.{resized}
 use Rattle.rp_disk.specs.History.{shown}
-use Rattle.rp_disk.specs.Made.{Made, history_of, history_told}
+use Rattle.rp_disk.specs.Made.{Made, history_of}
 use Rattle.rp_disk.proofs.Agreeing.{length-resized}
 use Rattle.rp_disk.proofs.Ranges.{length-bytes_at}
 use Rattle.rp_fill.specs.Copied.{IsCopyOf, file_bytes}

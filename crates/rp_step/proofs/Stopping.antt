@@ -4,14 +4,12 @@ use Rattle.std.specs.Prelude.{Any, IfSome}
 use Rattle.std.proofs.lemmas.List.Elements.{All-head, All-tail, All-weaker}
 use Rattle.rp_base.specs.Image.{bytes_at}
 use Rattle.rp_base.specs.Trees.{hash_blocks, levels}
-use Rattle.rp_base.specs.declared.guid.Guid.{Guid}
 use Rattle.rp_base.specs.declared.plan.Plan.{Plan}
 use Rattle.rp_disk.specs.History.{History, Did, Failed, IsLawful, shown}
 use Rattle.rp_disk.specs.Made.{Made, Done, Broke, after_made, dones, history_of, history_told}
 use Rattle.rp_disk.specs.Ranges.{Apart}
 use Rattle.rp_disk.specs.Stops.{Each}
 use Rattle.rp_disk.proofs.Runs.{after_made-append}
-use Rattle.rp_format.specs.Puts.{writes_of}
 use Rattle.rp_format.specs.Written.{AreBlocks, IsTreePlan, data_end, hash_calls, hash_end}
 use Rattle.rp_format.specs.declared.tree.TreePlan.{TreePlan}
 use Rattle.rp_format.proofs.Kept.{writes-are}
@@ -28,7 +26,7 @@ use Rattle.rp_verity.proofs.OrderLemmas.{order-inside}
 use Rattle.rp_verity.proofs.ShapeLemmas.{hash_blocks-over}
 use Rattle.rp_step.specs.Found.{AreFound, CanMake, Found, IsFound, LiesIn, Outside, calls_with, tree_of}
 use Rattle.rp_step.specs.Made.{HasOtherRoot}
-use Rattle.rp_step.specs.Run.{AllLieIn, StopsAtRoot, shown_root, size_after}
+use Rattle.rp_step.specs.Run.{AllLieIn, StopsAtRoot, shown_root}
 use Rattle.rp_step.proofs.Lengths.{length_after}
 
 -- a tree with another root hash than the planned one, over the bytes that an image shows

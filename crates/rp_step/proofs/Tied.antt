@@ -1,5 +1,5 @@
 -- Where sources and disk tell, the calls are those of the plan.
-use Rattle.std.proofs.Common.{◌≡◌, ℕ, ◌+◌, ◌*◌, ◌≤◌, List, [], ◌∷◌, ◌++◌, length, Option, Some, None, refl, sym, ap, ap₂, ◌∙◌, subst}
+use Rattle.std.proofs.Common.{◌≡◌, ℕ, ◌+◌, ◌*◌, ◌≤◌, List, [], ◌∷◌, ◌++◌, length, Option, Some, refl, sym, ap, ap₂, ◌∙◌, subst}
 use Rattle.std.specs.Prelude.{IfSome}
 use Rattle.rp_base.specs.Image.{bytes_at}
 use Rattle.rp_base.specs.declared.plan.Plan.{Plan}
@@ -17,7 +17,7 @@ use Rattle.rp_steps.specs.declared.step.Step.{Step}
 use Rattle.rp_steps.specs.declared.step.Step.TheVariants.{Grow, Zero, Copy, Tree, ClosePrimary, ArrayPrimary, HeaderPrimary, CloseBackup, ArrayBackup, HeaderBackup, Mbr, Sync}
 use Rattle.rp_verity.specs.Filled.{cut}
 use Rattle.rp_verity.specs.Superblock.{superblock}
-use Rattle.rp_verity.specs.Tree.{root_hash, stored_tree}
+use Rattle.rp_verity.specs.Tree.{stored_tree}
 use Rattle.rp_step.specs.Found.{AreFound, Found, IsFound, Outside, all_calls, calls_with}
 use Rattle.rp_step.specs.Sourced.{path_at, sources_in}
 

@@ -1,6 +1,5 @@
-use Rattle.std.proofs.Common.{List, subst, sym}
+use Rattle.std.proofs.Common.{List, subst}
 use Rattle.std.specs.Prelude.{All}
-use Rattle.rp_step.specs.Found.{CanMake}
 use Rattle.rp_steps.specs.declared.step.Step.{Step}
 use Rattle.rp_apply.specs.Ready.{NamesPath}
 use Rattle.rp_apply.proofs.Can.{can_make}

@@ -1,10 +1,11 @@
 -- Draft: the names of goals and of the element are guessed.
-use Rattle.std.proofs.Common.{◌≡◌, ℕ, List, length, get_or, drop, take, refl, sym, ◌∙◌, subst, arith, rules, All, take_all}
+use Rattle.std.proofs.Common.{◌≡◌, ℕ, take, refl, ◌∙◌, arith, rules}
+use Rattle.std.proofs.lemmas.List.{take_all}
 use Rattle.std.specs.Prelude.{IfSome, Option, Some, None}
 use Rattle.rp_disk.specs.History.{IsLawful}
 use Rattle.rp_disk.specs.Made.{history_told}
 use Rattle.rp_step.proofs.Going.{all_made, broken_there, drop_next, so_far_at, so_far_none}
-use Rattle.rp_step.proofs.Lengths.{LieSoFar, lie_all, lie_broke, lie_more, lie_none}
+use Rattle.rp_step.proofs.Lengths.{lie_all, lie_broke, lie_more, lie_none}
 use Rattle.rp_step.proofs.steps.make_steps.Goals as goal
 
 -- a count that stood still
@@ -50,3 +51,16 @@ returns-clause-made g c =
 
 pub returns-clause-disk_strays : goal.returns-clause-disk_strays
 returns-clause-disk_strays g c = lie_all _ _ c.args.steps.now _ _ _ _ _ c.loop-step.invariant.disk_strays
+
+pub returns-in_err-make_step-clause-made : goal.returns-in_err-make_step-clause-made
+returns-in_err-make_step-clause-made g c =
+    let i = c.loop-step.invariant in
+    let makes = c.in_err-make_step.ensures.made in
+    broken_there _ _ c.args.steps.now c.loop-step.step-index _ makes.0 _ _ _ _ c.from_residual.result c.from_residual.ensures c.loop-step-test.true i.so_far
+    (rw (i.first, i.told) at makes.1)
+
+pub returns-in_err-make_step-clause-disk_strays : goal.returns-in_err-make_step-clause-disk_strays
+returns-in_err-make_step-clause-disk_strays g c =
+    let i = c.loop-step.invariant in
+    lie_broke _ _ c.args.steps.now _ _ _ _ _ _ _ (rw (drop_next c.args.steps.now c.loop-step.step-index _ c.loop-step-test.true) at i.disk_strays)
+    (rw i.first at c.make_step.ensures.disk_strays)
