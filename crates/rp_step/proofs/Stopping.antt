@@ -53,20 +53,20 @@ goes_on plan (found ∷ founds) (step ∷ steps) planned copied old new (inr lat
     let calls = dones (calls_with plan found step) in
     let r = goes_on plan founds steps planned copied (old ++ calls) new later.1 in
     (calls ++ r.0, r.1 ∙ append_assoc old calls r.0)
-goes_on plan (found ∷ founds) (step ∷ steps) planned copied old new (inl here) = at step here where
-  at : (s : Step) → HasOtherRoot found planned copied old new s → (more : List Made) × (new ≡ old ++ more)
-  at (Tree data_at hash_at blocks salt uuid root) other = (dones (hash_calls (tree_of data_at hash_at blocks salt uuid root) found.blocks), other.3)
-  at (Grow len) other = absurd other
-  at (Zero from len) other = absurd other
-  at (Copy file from len) other = absurd other
-  at ClosePrimary other = absurd other
-  at ArrayPrimary other = absurd other
-  at HeaderPrimary other = absurd other
-  at CloseBackup other = absurd other
-  at ArrayBackup other = absurd other
-  at HeaderBackup other = absurd other
-  at Mbr other = absurd other
-  at Sync other = absurd other
+goes_on plan (found ∷ founds) (step ∷ steps) planned copied old new (inl here) = by step here where
+  by : (s : Step) → HasOtherRoot found planned copied old new s → (more : List Made) × (new ≡ old ++ more)
+  by (Tree data_at hash_at blocks salt uuid root) other = (dones (hash_calls (tree_of data_at hash_at blocks salt uuid root) found.blocks), other.3)
+  by (Grow len) other = absurd other
+  by (Zero from len) other = absurd other
+  by (Copy file from len) other = absurd other
+  by ClosePrimary other = absurd other
+  by ArrayPrimary other = absurd other
+  by HeaderPrimary other = absurd other
+  by CloseBackup other = absurd other
+  by ArrayBackup other = absurd other
+  by HeaderBackup other = absurd other
+  by Mbr other = absurd other
+  by Sync other = absurd other
 
 hashes-are : (tree : TreePlan) (taken : List (List ℕ)) → Each IsWrite (hash_calls tree taken)
 unfolding tree_writes
