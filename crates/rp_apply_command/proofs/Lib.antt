@@ -1,0 +1,5 @@
+pub mod Called
+pub mod Goals
+pub mod Runs
+pub mod Moments
+pub mod Ended
