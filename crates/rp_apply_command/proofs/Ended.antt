@@ -1,8 +1,7 @@
 -- How a run of `apply` ends on the disk.
 use Rattle.std.proofs.Common.{◌≡◌, ◌⊎◌, ◌∙◌, ℕ, ◌%◌, ◌^◌, ◌≤◌, List, [], ◌∷◌, ◌++◌, Bool, Result, Ok, Err, refl, sym, ap, subst, inl, inr}
-use Rattle.std.specs.Prelude.{IfOk}
+use Rattle.std.specs.Prelude.{IfOk, IfSome, Option, Some, None}
 use Rattle.rp_base.specs.Geometry.{IsSector}
-use Rattle.rp_defs.specs.WellFormed.{IsWellFormed}
 use Rattle.rp_defs.specs.declared.definition.Definition.{Definition}
 use Rattle.rp_defs.specs.declared.definition.Definitions.{Definitions}
 use Rattle.rp_disk.specs.Made.{dones}
@@ -14,16 +13,17 @@ use Rattle.rp_io.specs.Files.{Tree}
 use Rattle.rp_io.specs.declared.stored.Stored.{Stored}
 use Rattle.rp_outcome.specs.Device.{Device}
 use Rattle.rp_outcome.specs.Output.{Output, Finishes, Refuses}
-use Rattle.rp_outcome.specs.Refusals.{Refusal, disk_refusal, memory_refusal}
+use Rattle.rp_outcome.specs.Refusals.{Refusal, disk_refusal, folder_refusal, memory_refusal}
 use Rattle.rp_outcome.specs.Store.{Store}
 use Rattle.rp_planned.specs.Planning.{PlansImage}
 use Rattle.rp_planned.specs.declared.planned.Planned.{Planned}
 use Rattle.rp_planned.specs.declared.request.Request.{Request}
-use Rattle.rp_reading.specs.Reading.{IsReadingRefusal, ReadsDefinitions}
+use Rattle.rp_reading.specs.Reading.{IsReadingRefusal, ReadsDefinitions, definitions_in}
+use Rattle.rp_reading.specs.Stages.{Settles}
 use Rattle.rp_apply_command.specs.Applies.{Applies, AppliesBehind, AppliesOpened, AppliesPlanned, CarriesOut, Commits, EndsHere, IsCommitRefusal, Opens, Outcome, PlanFits, Tells, applied_report}
-use Rattle.rp_apply_command.specs.Ends.{Ends, IsBefore, IsBehind, IsBetween, LeavesAll}
+use Rattle.rp_apply_command.specs.Ends.{AreRead, Ends, IsBefore, IsBehind, IsBetween, LeavesAll}
 use Rattle.rp_apply_command.specs.Ends.Ends.{before, behind, broken, between}
-use Rattle.rp_apply_command.proofs.Goals.{IsRefused, none_planned, only_read}
+use Rattle.rp_apply_command.proofs.Goals.{IsRefused, none_planned, only_read, settled_ok}
 use Rattle.rp_apply_command.proofs.Moments.{carries_all, carries_some, leaves_all}
 use Rattle.rp_apply_command.proofs.Runs.{made_none, made_sync}
 
@@ -41,36 +41,39 @@ finished : (out after : Output) (text : List ℕ) (status : ℕ) → Finishes ou
 finished out after text status (inl done) = inl done.0
 finished out after text status (inr cut) = inr cut.0
 
-module _ (request : Request) (disk later : Device) (sources : Store (List Stored)) (out after : Output) (status : ℕ)
-    (of_sector : IsSector request.sector) (whole : request.size % 4096 ≡ 0) (most : request.size ≤ 2 ^ 44) where
+module _ (request : Request) (json : Bool) (dirs : List (List ℕ)) (folders : Store Tree) (disk later : Device)
+    (sources : Store (List Stored)) (out after : Output) (status : ℕ) (of_sector : IsSector request.sector) (whole : request.size % 4096 ≡ 0) (most : request.size ≤ 2 ^ 44) where
+  abbrev End : Type 0
+  End = Ends request json dirs folders disk later sources out after status
+
   -- a refusal before anything was carried out
   refused_so : (refusal : Refusal) → IsRefused refusal → Refuses out after refusal status → LeavesAll disk later
-      → Ends request disk later sources status
+      → End
   refused_so refusal (inl is) refuses leaves = before (subst IsBefore (sym refuses.answers) is) leaves
   refused_so refusal (inr is) refuses leaves = broken (subst IsBetween (sym refuses.answers) is) leaves
 
   ended_at : (mid : Device) (left drained : Store (List Stored)) (refusal : Refusal) (calls : List Call)
       → MadeFirst disk.calls (Sync ∷ []) mid.calls → IsRefused refusal
-      → EndsHere mid later left drained out after status refusal calls → Ends request disk later sources status
+      → EndsHere mid later left drained out after status refusal calls → End
   ended_at mid left drained refusal calls made is here =
       refused_so refusal is here.3 (leaves_all disk later
       (subst (λ (d : Device). MadeFirst disk.calls (Sync ∷ []) d.calls) (sym here.0) made))
 
-  module _ (json : Bool) (definitions : Definitions) (formed : IsWellFormed definitions.list) (opened : Device)
+  module _ (definitions : Definitions) (are : AreRead request dirs folders definitions) (opened : Device)
       (first : opened.first ≡ disk.first) (synced : opened.calls ≡ disk.calls ++ dones (Sync ∷ [])) (drained : Store (List Stored))
       (calls : List Call) where
     committed : (read : Device) (asked : Store (List Stored)) (planned : Planned)
         → PlansImage request definitions.list opened read sources asked (Ok planned) → PlanFits planned → (answer : Outcome)
         → CarriesOut definitions planned read later asked drained calls answer
-        → Tells json definitions planned out after status answer → Ends request disk later sources status
+        → Tells json definitions planned out after status answer → End
     committed read asked planned plans fits (Ok done) carries tells =
-        behind (finished out after (applied_report json definitions planned) status tells) definitions.list planned calls
-        (carries_all request definitions disk opened read later sources asked drained planned calls (Ok done) of_sector whole most formed
-        fits first synced plans carries carries.ran.ok)
+        behind (finished out after (applied_report json definitions planned) status tells) definitions planned calls are
+        (carries_all request definitions disk opened read later sources asked drained planned calls (Ok done) of_sector whole most
+        are.formed fits first synced plans carries carries.ran.ok) tells
     committed read asked planned plans fits (Err refusal) carries tells =
-        between (subst IsBetween (sym tells.answers) (is_commit planned refusal carries.refusal)) definitions.list planned calls
+        between (subst IsBetween (sym tells.answers) (is_commit planned refusal carries.refusal)) definitions planned calls are
         (carries_some request definitions disk opened read later sources asked drained planned calls (Err refusal) of_sector whole most
-        formed fits first synced plans carries)
+        are.formed fits first synced plans carries) refusal carries.refusal tells
 
     made_by : (read : Device) (asked : Store (List Stored)) (answer : Result Planned Refusal)
         → PlansImage request definitions.list opened read sources asked answer → MadeFirst disk.calls (Sync ∷ []) read.calls
@@ -79,7 +82,7 @@ module _ (request : Request) (disk later : Device) (sources : Store (List Stored
 
     by_plan : (read : Device) (asked : Store (List Stored)) (answer : Result Planned Refusal)
         → PlansImage request definitions.list opened read sources asked answer → IfOk answer PlanFits
-        → AppliesPlanned json definitions read later asked drained out after status calls answer → Ends request disk later sources status
+        → AppliesPlanned json definitions read later asked drained out after status calls answer → End
     by_plan read asked (Err refusal) plans fits here =
         ended_at read asked drained refusal calls (made_by read asked (Err refusal) plans)
         (none_planned request definitions.list opened read sources asked refusal plans) here
@@ -87,29 +90,39 @@ module _ (request : Request) (disk later : Device) (sources : Store (List Stored
         ended_at read asked drained memory_refusal calls (made_by read asked (Ok planned) plans) (inl (inr (inr (inr refl)))) here
     by_plan read asked (Ok planned) plans fits (inr commits) = committed read asked planned plans fits commits.0 commits.1 commits.2
 
-  by_opening : (json : Bool) (definitions : Definitions) → IsWellFormed definitions.list → (opened : Device) (drained : Store (List Stored))
+  by_opening : (definitions : Definitions) → AreRead request dirs folders definitions → (opened : Device) (drained : Store (List Stored))
       (calls : List Call) (answer : Outcome) → Opens disk opened answer
       → AppliesOpened request json definitions opened later sources drained out after status calls answer
-      → Ends request disk later sources status
-  by_opening json definitions formed opened drained calls (Err refusal) opens here =
+      → End
+  by_opening definitions are opened drained calls (Err refusal) opens here =
       ended_at opened sources drained refusal calls (made_first {T = Unit {0}} {E = Refusal} (Err refusal) disk.calls opened.calls (Sync ∷ []) opens.ran)
       (inr (inl (ap (λ (r : Refusal). r.status) opens.refusal))) here
-  by_opening json definitions formed opened drained calls (Ok done) opens plans =
-      by_plan json definitions formed opened opens.first opens.ran.ok drained calls plans.0 plans.1 plans.2 plans.3 plans.4 plans.5
+  by_opening definitions are opened drained calls (Ok done) opens plans =
+      by_plan definitions are opened opens.first opens.ran.ok drained calls plans.0 plans.1 plans.2 plans.3 plans.4 plans.5
 
-  by_definitions : (json : Bool) (dirs : List (List ℕ)) (folders read : Store Tree) (drained : Store (List Stored)) (calls : List Call)
+  -- the definitions were read
+  read_so : (definitions : Definitions) (read : Store Tree) → ReadsDefinitions request.arch dirs folders read (Ok definitions)
+      → AreRead request dirs folders definitions
+  read_so definitions read reads = record { formed = reads.well_formed; told = by_told folders.told reads.settled } where
+    by_told : (o : Option Tree) → IfSome o (λ tree. Settles folder_refusal (definitions_in request.arch tree dirs) (Ok definitions))
+        → IfSome o (λ tree. definitions_in request.arch tree dirs ≡ Ok definitions)
+    by_told None settles = tt
+    by_told (Some tree) settles = settled_ok folder_refusal (definitions_in request.arch tree dirs) definitions settles
+
+  by_definitions : (read : Store Tree) (drained : Store (List Stored)) (calls : List Call)
       (answer : Result Definitions Refusal) → ReadsDefinitions request.arch dirs folders read answer
-      → AppliesBehind request json disk later sources drained out after status calls answer → Ends request disk later sources status
-  by_definitions json dirs folders read drained calls (Err refusal) reads here =
+      → AppliesBehind request json disk later sources drained out after status calls answer → End
+  by_definitions read drained calls (Err refusal) reads here =
       ended_at disk sources drained refusal calls (made_none disk.calls (Sync ∷ [])) (is_reading refusal reads.refusal) here
-  by_definitions json dirs folders read drained calls (Ok definitions) reads opens =
-      by_opening json definitions reads.well_formed opens.0 drained calls opens.1 opens.2 opens.3
+  by_definitions read drained calls (Ok definitions) reads opens =
+      by_opening definitions (read_so definitions read reads) opens.0 drained calls opens.1 opens.2 opens.3
 
 -- how it ends
 pub ends_so : (request : Request) (json : Bool) (dirs : List (List ℕ)) (folders read : Store Tree) (disk later : Device)
     (sources drained : Store (List Stored)) (out after : Output) (status : ℕ)
     → IsSector request.sector → request.size % 4096 ≡ 0 → request.size ≤ 2 ^ 44
-    → Applies request json dirs folders read disk later sources drained out after status → Ends request disk later sources status
+    → Applies request json dirs folders read disk later sources drained out after status
+    → Ends request json dirs folders disk later sources out after status
 ends_so request json dirs folders read disk later sources drained out after status of_sector whole most applies =
-    by_definitions request disk later sources out after status of_sector whole most json dirs folders read drained applies.0 applies.1.0
+    by_definitions request json dirs folders disk later sources out after status of_sector whole most read drained applies.0 applies.1.0
     applies.1.1 applies.1.2

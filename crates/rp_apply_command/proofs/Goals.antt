@@ -11,7 +11,7 @@ use Rattle.rp_defs.specs.WellFormed.{IsWellFormed}
 use Rattle.rp_defs.specs.declared.definition.Definition.{Definition}
 use Rattle.rp_demand.specs.declared.demand.Demand.{Demand}
 use Rattle.rp_demand.specs.declared.demand.Demand.TheVariants as demands
-use Rattle.rp_disk.specs.History.{shown}
+use Rattle.rp_disk.specs.History.{History, shown}
 use Rattle.rp_gpt.specs.Accepted.{IsSeen}
 use Rattle.rp_gpt.specs.Shown.{accepted}
 use Rattle.rp_gpt.specs.declared.table_fault.TableFault.{TableFault}
@@ -22,18 +22,19 @@ use Rattle.rp_outcome.specs.Device.{Device, history}
 use Rattle.rp_outcome.specs.Refusals.{Refusal, disk_refusal, memory_refusal, repair_refusal, source_refusal, table_refusal}
 use Rattle.rp_outcome.specs.Store.{Store}
 use Rattle.rp_plan.specs.Goal.{goal}
-use Rattle.rp_planned.specs.Planning.{AsksSources, IsImageRefusal, PlansBy, PlansImage, PlansSeen, PlansUnless, ReadsImage, is_primary, must_repair, planned_by, seen_of, target_of, with_seen}
+use Rattle.rp_planned.specs.Planning.{AsksSources, IsImageRefusal, PlansBy, PlansImage, PlansSeen, PlansUnless, ReadsImage, is_primary, must_repair, planned_by, planned_of, planned_unless, seen_of, target_of, with_seen}
 use Rattle.rp_planned.specs.declared.planned.Planned.{Planned}
 use Rattle.rp_planned.specs.declared.request.Request.{Request}
 use Rattle.rp_planned.proofs.Target.{target_is}
 use Rattle.rp_reading.specs.Stages.{Settles, and_then, refused}
+use Rattle.rp_sizes.specs.Facts.{facts}
 use Rattle.rp_sizes.specs.Needs.{AreFactsOn, wanted_of}
 use Rattle.rp_sizes.specs.declared.need.Fact.{Fact}
 use Rattle.rp_apply_command.specs.Applies.{PlanFits}
 use Rattle.rp_apply_command.specs.Ends.{IsBefore, IsBetween, IsGoalOf}
 
 -- a stage that answered, answered what it is to
-settled_ok : {T : Type 0} (failure : Refusal) (ideal : Result T Refusal) (value : T) → Settles failure ideal (Ok value) → ideal ≡ Ok value
+pub settled_ok : {T : Type 0} (failure : Refusal) (ideal : Result T Refusal) (value : T) → Settles failure ideal (Ok value) → ideal ≡ Ok value
 settled_ok failure ideal value (inl same) = sym same
 settled_ok failure ideal value (inr (inl e)) = absurd (cc)
 settled_ok failure ideal value (inr (inr e)) = absurd (cc)
@@ -198,3 +199,52 @@ told_same request list disk later sources drained planned plans = by_seen plans.
   by_seen : (answer : Result Seen Refusal) → PlansSeen request list answer sources drained (Ok planned) → drained.told ≡ sources.told
   by_seen (Err refusal) e = absurd (let f : ◌≡◌ {A = Result Planned Refusal} (Ok planned) (Err refusal) = e.0 in cc)
   by_seen (Ok seen) answer = by_repair seen (must_repair request.size seen) answer
+
+-- what the sources told is what was known
+same_facts : (known facts : List Fact) → Settles source_refusal (Ok facts) (Ok known) → facts ≡ known
+same_facts known facts (inl same) = cc
+same_facts known facts (inr (inl e)) = absurd (cc)
+same_facts known facts (inr (inr e)) = absurd (cc)
+
+-- where image and sources tell, the plan is the one that is planned by them
+module _ (request : Request) (list : List Definition) (disk later : Device) (sources drained : Store (List Stored)) (planned : Planned) where
+  abbrev ToldBy : List ℕ → List Stored → Type 0
+  ToldBy image files = planned_of request list image files ≡ Ok planned
+
+  abbrev IsTold : Type 0
+  IsTold = IfSome (history disk) (λ h. IfSome sources.told (λ files. planned_of request list (shown h) files ≡ Ok planned))
+
+  told_at : (seen : Seen) (known : List Fact) → ReadsImage request.sector request.empty disk later (Ok seen)
+      → must_repair request.size seen ≡ false → AsksSources request.seed seen.shown list sources drained (Ok known)
+      → Ok planned ≡ planned_by request list seen known → IsTold
+  told_at seen known reads none asks is = by_both (history disk) sources.told reads.settled asks.settled where
+    by_both : (o : Option History) (t : Option (List Stored))
+        → IfSome o (λ h. Settles disk_refusal (seen_of request.sector request.empty (shown h)) (Ok seen))
+        → IfSome t (λ files. Settles source_refusal (Ok (facts request.seed files seen.shown list)) (Ok known))
+        → IfSome o (λ h. IfSome t (λ files. planned_of request list (shown h) files ≡ Ok planned))
+    by_both None t image settles = tt
+    by_both (Some h) None image settles = tt
+    by_both (Some h) (Some files) image settles =
+        ap (λ (r : Result Seen Refusal). and_then r (λ s. planned_unless (must_repair request.size s) request list files s))
+        (settled_ok disk_refusal (seen_of request.sector request.empty (shown h)) seen image)
+        ∙ ap (λ b. planned_unless b request list files seen) none
+        ∙ ap (planned_by request list seen) (same_facts known (facts request.seed files seen.shown list) settles) ∙ sym is
+
+  told_facts : (seen : Seen) (known : Result (List Fact) Refusal) → ReadsImage request.sector request.empty disk later (Ok seen)
+      → must_repair request.size seen ≡ false → AsksSources request.seed seen.shown list sources drained known
+      → PlansBy request list seen known (Ok planned) → IsTold
+  told_facts seen (Err refusal) reads none asks e = absurd (cc)
+  told_facts seen (Ok facts) reads none asks (inl e) = told_at seen facts reads none asks e
+  told_facts seen (Ok facts) reads none asks (inr e) = absurd (cc)
+
+  told_repair : (seen : Seen) (b : Bool) → must_repair request.size seen ≡ b → ReadsImage request.sector request.empty disk later (Ok seen)
+      → PlansUnless b request list seen sources drained (Ok planned) → IsTold
+  told_repair seen true is reads e = absurd (let f : ◌≡◌ {A = Result Planned Refusal} (Ok planned) (Err repair_refusal) = e.0 in cc)
+  told_repair seen false is reads plans = told_facts seen plans.0 reads is plans.1 plans.2
+
+  pub is_told : PlansImage request list disk later sources drained (Ok planned) → IsTold
+  is_told plans = by_seen plans.0 plans.1 plans.2 where
+    by_seen : (answer : Result Seen Refusal) → ReadsImage request.sector request.empty disk later answer
+        → PlansSeen request list answer sources drained (Ok planned) → IsTold
+    by_seen (Err refusal) reads e = absurd (let f : ◌≡◌ {A = Result Planned Refusal} (Ok planned) (Err refusal) = e.0 in cc)
+    by_seen (Ok seen) reads plans = told_repair seen (must_repair request.size seen) refl reads plans

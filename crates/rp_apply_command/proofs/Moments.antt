@@ -20,7 +20,7 @@ use Rattle.rp_io.specs.declared.stored.Stored.{Stored}
 use Rattle.rp_outcome.specs.Device.{Device, history}
 use Rattle.rp_outcome.specs.Refusals.{Refusal}
 use Rattle.rp_outcome.specs.Store.{Store}
-use Rattle.rp_planned.specs.Planning.{PlansImage, target_of}
+use Rattle.rp_planned.specs.Planning.{PlansImage, planned_of, target_of}
 use Rattle.rp_planned.specs.declared.planned.Planned.{Planned}
 use Rattle.rp_planned.specs.declared.request.Request.{Request}
 use Rattle.rp_steps.specs.Calls.{calls as calls_for}
@@ -30,7 +30,7 @@ use Rattle.rp_apply_command.specs.Applies.{CarriesOut, Opens, Outcome, PlanFits,
 use Rattle.rp_apply_command.specs.Called.{AreCallsFor}
 use Rattle.rp_apply_command.specs.Ends.{AtEachMoment, AtTheEnd, CarriesAll, CarriesSome, Given, IsGoalOf, LeavesAll, StopsExactly, StopsSafely}
 use Rattle.rp_apply_command.proofs.Called.{are_calls_for}
-use Rattle.rp_apply_command.proofs.Goals.{is_goal, only_read, told_same}
+use Rattle.rp_apply_command.proofs.Goals.{is_goal, is_told, only_read, told_same}
 use Rattle.rp_apply_command.proofs.Runs.{all_behind, ends_with_sync, made_behind, same_shown}
 
 -- no call, or a sync alone
@@ -89,6 +89,19 @@ module _ (request : Request) (definitions : Definitions) (disk opened read later
       (only.0 ∙ first ∙ tells) carries.exact in
       (subst (λ o. IfSome o Exact) (told_same request list opened read sources asked planned plans ∙ told) on_disk).0
 
+  abbrev IsToldAt : List ℕ → List Stored → Type 0
+  IsToldAt image files = planned_of request definitions.list image files ≡ Ok planned
+
+  told_of : (bytes : List ℕ) → disk.first ≡ Some bytes → (files : List Stored) → sources.told ≡ Some files
+      → planned_of request list (old bytes) files ≡ Ok planned
+  told_of bytes tells files told =
+      let on_disk : IfSome (history_told (Some bytes) opened.calls) (λ h. IfSome sources.told (IsToldAt (shown h))) =
+      subst (λ o. IfSome (history_told o opened.calls) (λ h. IfSome sources.told (IsToldAt (shown h)))) (first ∙ tells)
+      (is_told request list opened read sources asked planned plans) in
+      let of_all : IfSome sources.told (IsToldAt (shown (history_of bytes opened.calls))) = on_disk in
+      let then : IsToldAt (shown (history_of bytes opened.calls)) files = subst (λ o. IfSome o (IsToldAt (shown (history_of bytes opened.calls)))) told of_all in
+      subst (λ image. IsToldAt image files) (ap (λ l. shown (history_of bytes l)) synced ∙ same_shown bytes disk.calls) then
+
   at_any : (bytes : List ℕ) → AtAnyMomentBehindSync (Some bytes) disk.calls calls later.calls
   at_any bytes = any_moment_behind_sync (Some bytes) disk.calls later.calls calls made
 
@@ -113,6 +126,7 @@ module _ (request : Request) (definitions : Definitions) (disk opened read later
     stops_exactly files told =
         let exact = exact_of bytes tells files told in
         let any = subst (λ l. AtAnyMomentBehindSync (Some bytes) disk.calls l later.calls) exact (at_any bytes) in record {
+          goal = told_of bytes tells files told;
           exact = exact;
           at_moments = is_left request.sector bytes request.empty planned.seen (target_of request.size planned.seen) list known.0
               request.seed planned.plan disk.calls later.calls known.1 (Given list files) any fits.notes;

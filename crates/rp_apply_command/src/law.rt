@@ -16,5 +16,6 @@ pub fn apply_ends()
     ensures { (request : Asked) (json : Bool) (dirs : List (List ℕ)) (folders read : Store Tree) (disk later : Device)
         (sources drained : Store (List Stored)) (out after : Output) (status : ℕ)
         → IsSector request.sector → request.size % 4096 ≡ 0 → request.size ≤ 2 ^ 44
-        → Applies request json dirs folders read disk later sources drained out after status → Ends request disk later sources status }
+        → Applies request json dirs folders read disk later sources drained out after status
+        → Ends request json dirs folders disk later sources out after status }
 {}
