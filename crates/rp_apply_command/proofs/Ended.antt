@@ -1,10 +1,12 @@
 -- How a run of `apply` ends on the disk.
 use Rattle.std.proofs.Common.{◌≡◌, ◌⊎◌, ◌∙◌, ℕ, ◌%◌, ◌^◌, ◌≤◌, List, [], ◌∷◌, ◌++◌, Bool, Result, Ok, Err, refl, sym, ap, subst, inl, inr}
-use Rattle.std.specs.Prelude.{IfOk, IfSome, Option, Some, None}
+use Rattle.std.specs.Prelude.{IfOk, IfSome, Option, Some, None, length}
+use Rattle.rp_idle.specs.Idle.{IsIdle}
 use Rattle.rp_base.specs.Geometry.{IsSector}
 use Rattle.rp_defs.specs.declared.definition.Definition.{Definition}
 use Rattle.rp_defs.specs.declared.definition.Definitions.{Definitions}
-use Rattle.rp_disk.specs.Made.{dones}
+use Rattle.rp_disk.specs.History.{shown}
+use Rattle.rp_disk.specs.Made.{dones, history_of}
 use Rattle.rp_disk.specs.Runs.{MadeFirst}
 use Rattle.rp_disk.specs.declared.call.Call.{Call}
 use Rattle.rp_disk.specs.declared.call.Call.TheVariants.{Sync}
@@ -23,6 +25,7 @@ use Rattle.rp_reading.specs.Stages.{Settles}
 use Rattle.rp_apply_command.specs.Applies.{Applies, AppliesBehind, AppliesOpened, AppliesPlanned, CarriesOut, Commits, EndsHere, IsCommitRefusal, Opens, Outcome, PlanFits, Tells, applied_report}
 use Rattle.rp_apply_command.specs.Ends.{AreRead, Ends, IsBefore, IsBehind, IsBetween, LeavesAll}
 use Rattle.rp_apply_command.specs.Ends.Ends.{before, behind, broken, between}
+use Rattle.rp_apply_command.proofs.Again.{made_no_more}
 use Rattle.rp_apply_command.proofs.Goals.{IsRefused, none_planned, only_read, settled_ok}
 use Rattle.rp_apply_command.proofs.Moments.{carries_all, carries_some, leaves_all}
 use Rattle.rp_apply_command.proofs.Runs.{made_none, made_sync}
@@ -32,12 +35,12 @@ is_reading refusal (inl three) = inl (inl three)
 is_reading refusal (inr (inl failed)) = inr (inr (inl (ap (λ (r : Refusal). r.status) failed)))
 is_reading refusal (inr (inr want)) = inl (inr (inr (inr (ap (λ (r : Refusal). r.status) want))))
 
-is_commit : (planned : Planned) (refusal : Refusal) → IsCommitRefusal planned refusal → IsBetween refusal.status
+pub is_commit : (planned : Planned) (refusal : Refusal) → IsCommitRefusal planned refusal → IsBetween refusal.status
 is_commit planned refusal (inl failed) = inl (ap (λ (r : Refusal). r.status) failed)
 is_commit planned refusal (inr (inl failed)) = inr (inl (ap (λ (r : Refusal). r.status) failed))
 is_commit planned refusal (inr (inr changed)) = inr (inr (ap (λ (r : Refusal). r.status) changed.2))
 
-finished : (out after : Output) (text : List ℕ) (status : ℕ) → Finishes out after text status → IsBehind status
+pub finished : (out after : Output) (text : List ℕ) (status : ℕ) → Finishes out after text status → IsBehind status
 finished out after text status (inl done) = inl done.0
 finished out after text status (inr cut) = inr cut.0
 
@@ -126,3 +129,34 @@ pub ends_so : (request : Request) (json : Bool) (dirs : List (List ℕ)) (folder
 ends_so request json dirs folders read disk later sources drained out after status of_sector whole most applies =
     by_definitions request json dirs folders disk later sources out after status of_sector whole most read drained applies.0 applies.1.0
     applies.1.1 applies.1.2
+
+-- on an idle image, at every status, no call was made but the sync
+pub ends_idle : (request : Request) (json : Bool) (dirs : List (List ℕ)) (folders read : Store Tree) (disk later : Device)
+    (sources drained : Store (List Stored)) (out after : Output) (status : ℕ)
+    → IsSector request.sector → request.size % 4096 ≡ 0 → request.size ≤ 2 ^ 44
+    → Applies request json dirs folders read disk later sources drained out after status
+    → (bytes : List ℕ) (tree : Tree) (definitions : Definitions) → disk.first ≡ Some bytes → folders.told ≡ Some tree
+    → definitions_in request.arch tree dirs ≡ Ok definitions
+    → IsIdle request.sector (shown (history_of bytes disk.calls)) definitions.list request.seed
+    → request.size ≤ length (shown (history_of bytes disk.calls)) → MadeFirst disk.calls (Sync ∷ []) later.calls
+ends_idle request json dirs folders read disk later sources drained out after status of_sector whole most applies bytes tree definitions
+    tells told are idle long =
+    by_end (ends_so request json dirs folders read disk later sources drained out after status of_sector whole most applies) where
+      same_ok : (a b : Definitions) → ◌≡◌ {A = Result Definitions Refusal} (Ok a) (Ok b) → a ≡ b
+      same_ok a b e = cc
+
+      same : (others : Definitions) → AreRead request dirs folders others
+          → IsIdle request.sector (shown (history_of bytes disk.calls)) others.list request.seed
+      same others read_so =
+          let found : definitions_in request.arch tree dirs ≡ Ok others =
+          subst (λ o. IfSome o (λ tree. definitions_in request.arch tree dirs ≡ Ok others)) told read_so.told in
+          subst (λ (d : Definitions). IsIdle request.sector (shown (history_of bytes disk.calls)) d.list request.seed)
+          (same_ok definitions others (sym are ∙ found)) idle
+
+      by_end : Ends request json dirs folders disk later sources out after status → MadeFirst disk.calls (Sync ∷ []) later.calls
+      by_end (before is leaves) = leaves.made
+      by_end (broken is leaves) = leaves.made
+      by_end (behind is others planned calls read_so all finishes) =
+          made_no_more request others.list disk later sources planned calls bytes all.some tells (same others read_so) long
+      by_end (between is others planned calls read_so some refusal cause refuses) =
+          made_no_more request others.list disk later sources planned calls bytes some tells (same others read_so) long

@@ -3,4 +3,4 @@
 
 mod law;
 
-pub use law::apply_ends;
+pub use law::{apply_ends, apply_on_an_idle_image, apply_refuses_as_plan};
