@@ -72,7 +72,8 @@ fn listed_or_default(policy: &Policy, designator: Designator) -> Flags
     policy.listed[place(designator)].unwrap_or(policy.default)
 }
 
-fn place(designator: Designator) -> usize
+/// The place of a designator among them, as in a policy's list.
+pub fn place(designator: Designator) -> usize
     ensures value { result ≡ place_of_designator designator }
     ensures below { result < 13 }
 {

@@ -10,10 +10,11 @@ mod reading;
 mod writing;
 
 pub use beyond::{Counter, compare};
-pub use judging::{Found, Judged, Kind, Rule, flags_for, judge};
+pub use judging::{Found, Judged, Kind, Rule, flags_for, judge, place};
+pub use names::DESIGNATORS;
 pub use policy::{Flags, Policy, PolicyFault, PolicyKind};
 pub use reading::parse;
-pub use writing::write;
+pub use writing::{push_flags, write};
 
 #[cfg(test)]
 mod tests;

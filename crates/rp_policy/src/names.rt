@@ -16,7 +16,8 @@ pub(crate) const ABSENT: u16 = 32;
 /// The place of the default's entry behind those of designators.
 pub(crate) const DEFAULT: usize = 13;
 
-pub(crate) const DESIGNATORS: [Designator; 13] = [
+/// The designators in order.
+pub const DESIGNATORS: [Designator; 13] = [
     Designator::Root,
     Designator::Usr,
     Designator::Home,

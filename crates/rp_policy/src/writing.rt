@@ -98,15 +98,15 @@ fn push_entry(text: &mut String, name: &str, flags: u16) -> Result<(), Memory>
 {
     text.push_str(name)?;
     text.push('=')?;
-    push_flags(text, flags)
+    push_flags(text, Flags(flags))
 }
 
-// The names of flags, with plus signs between them.
-fn push_flags(text: &mut String, flags: u16) -> Result<(), Memory>
-    ensures { IfOk result (λ _. string_bytes text.new ≡ string_bytes text.old ++ flags_text flags) }
+/// Appends flags in their canonical form: their names, with plus signs between them.
+pub fn push_flags(text: &mut String, flags: Flags) -> Result<(), Memory>
+    ensures { IfOk result (λ _. string_bytes text.new ≡ string_bytes text.old ++ flags_text flags.0) }
 {
-    let first = push_uses(text, flags)?;
-    push_names(text, first, &STATES, flags)?;
+    let first = push_uses(text, flags.0)?;
+    push_names(text, first, &STATES, flags.0)?;
     Ok(())
 }
 

@@ -1,0 +1,12 @@
+use Rattle.std.proofs.Common.{refl}
+use Rattle.rp_denial.proofs.Pieces.{denied-pieces, prints_as}
+use Rattle.rp_denial.proofs.denials.deny.Goals as goal
+
+pub returns : goal.returns
+returns g c = record {
+  answers = refl;
+  printed =
+      prints_as _ _ _ _
+      (denied-pieces c.args.designator c.args.rule c.name.result.now c.rule_name.result.now c.name.ensures c.rule_name.ensures)
+      c.print_pieces.ensures;
+}

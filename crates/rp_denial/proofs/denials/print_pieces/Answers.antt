@@ -1,0 +1,32 @@
+use Rattle.std.proofs.Common.{ℕ, List, ◌+◌, take, drop, sym, inl, inr, arith}
+
+use Rattle.std.specs.Borrow.{Bor}
+use Rattle.std.specs.List.{flat_map}
+use Rattle.rp_outcome.proofs.Printed.{all_as, part_as, part_more, prints_none, then_all, then_part}
+use Rattle.rp_denial.proofs.Pieces.{finished_all, finished_part, pieces-all, pieces-at, pieces-more}
+use Rattle.rp_denial.proofs.denials.print_pieces.Goals as goal
+
+-- the text of a piece
+abbrev text_of : Bor (List ℕ) → List ℕ
+text_of piece = piece.now
+
+pub loop-piece-init : goal.loop-piece-init
+loop-piece-init g c = prints_none _
+
+pub returns-then-finish-ne-DONE : goal.returns-then-finish-ne-DONE
+returns-then-finish-ne-DONE g c =
+    let pieces = c.args.pieces.now in let i : ℕ = c.loop-piece.piece-index in
+    inr (part_as _ _ _ _ (sym (pieces-at text_of pieces i _ (omega arith)))
+    (part_more _ _ _ (flat_map text_of (drop (i + 1) pieces))
+    (then_part _ _ _ (flat_map text_of (take i pieces)) _ c.loop-piece.invariant
+    (finished_part _ _ _ _ c.finish.ensures c.if-finish-ne-DONE.true))))
+
+pub loop-piece-preserved : goal.loop-piece-preserved
+loop-piece-preserved g c =
+    let pieces = c.args.pieces.now in let i : ℕ = c.loop-piece.piece-index in
+    all_as _ _ _ _ (sym (pieces-more text_of pieces i _ (omega arith)))
+    (then_all _ _ _ (flat_map text_of (take i pieces)) _ c.loop-piece.invariant
+    (finished_all _ _ _ _ c.finish.ensures c.if-finish-ne-DONE.false))
+
+pub returns : goal.returns
+returns g c = inl (all_as _ _ _ _ (pieces-all text_of c.args.pieces.now c.loop-piece.piece-index (omega arith)) c.loop-piece.invariant)

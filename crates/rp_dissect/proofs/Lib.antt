@@ -1,0 +1,3 @@
+mod Kinding
+mod Reaching
+mod Reading

@@ -1,0 +1,3 @@
+pub mod Dissected
+pub mod Kinds
+pub mod Reach

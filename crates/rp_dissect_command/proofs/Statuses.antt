@@ -1,0 +1,221 @@
+-- What `dissect` promises, by its exit status.
+use Rattle.std.proofs.Common.{ℕ, ◌≡◌, ◌⊎◌, List, Bool, Option, Some, None, Result, Ok, Err, refl, sym, ◌∙◌, ap, subst, inl, inr, arith, true≢false}
+use Rattle.std.specs.Prelude.{IfSome, IsOkAnd, IsErrAnd}
+use Rattle.rp_base.specs.Answers.{Gives}
+use Rattle.rp_base.specs.Faults.{Rose}
+use Rattle.rp_denial.specs.Denials.{Denies}
+use Rattle.rp_disk.specs.History.{History, shown}
+use Rattle.rp_dissect.specs.Dissected.{verdicts}
+use Rattle.rp_dissect_command.specs.Dissects.{DissectsRead, Reads, Tells}
+use Rattle.rp_dissect_command.specs.Statuses.{DissectByStatus}
+use Rattle.rp_gpt.specs.declared.table_fault.TableFault.{TableFault}
+use Rattle.rp_gpt.specs.declared.table_fault.TableFault.TheVariants as table
+use Rattle.rp_outcome.specs.Causes.{HasCauses}
+use Rattle.rp_outcome.specs.Device.{Device, IsOnlyRead, history}
+use Rattle.rp_outcome.specs.Output.{Output, Finishes, Refuses}
+use Rattle.rp_outcome.specs.Refusals.{disk_refusal, table_refusal}
+use Rattle.rp_policy.specs.declared.judging.Rule.{Rule}
+use Rattle.rp_policy.specs.declared.policy.Policy.{Policy}
+use Rattle.rp_policy.specs.declared.policy.PolicyFault.{PolicyFault}
+use Rattle.rp_types.specs.declared.arch.Arch.{Arch}
+use Rattle.rp_types.specs.declared.arch.Designator.{Designator}
+use Rattle.rp_verdict.specs.Verdicts.{IsOwn}
+use Rattle.rp_verdict.specs.declared.verdict.DissectFault.{DissectFault}
+use Rattle.rp_verdict.specs.declared.verdict.DissectFault.TheVariants as faults
+use Rattle.rp_verdict.specs.declared.verdict.Verdicts.{Verdicts}
+use Rattle.rp_verdict_text.specs.Reports.{verdict_report}
+
+abbrev Answer : Type 0
+Answer = Result Verdicts DissectFault
+
+-- two numbers that differ are no one status
+clash : {P : Type 0} (status a b : ℕ) → status ≡ a → status ≡ b → (a ≡ b → ⊥) → P
+clash status a b e f differ = absurd (differ (sym e ∙ f))
+
+-- the status of a fault of the table: the image's, unless the disk failed or there was no memory
+fault_status : (fault : TableFault) → ((table_refusal fault).status ≡ 4) ⊎ ((fault ≡ table.Disk) ⊎ (fault ≡ table.Memory))
+fault_status table.Disk = inr (inl refl)
+fault_status (table.TooLong len) = inl refl
+fault_status (table.TooShort len) = inl refl
+fault_status table.ArrayPlace = inl refl
+fault_status (table.EntryCount count size) = inl refl
+fault_status (table.OtherTable kind) = inl refl
+fault_status table.NoTable = inl refl
+fault_status table.NotEmpty = inl refl
+fault_status (table.Bounds first last) = inl refl
+fault_status (table.RowRange slot) = inl refl
+fault_status (table.Overlap a b) = inl refl
+fault_status table.Memory = inr (inr refl)
+
+-- verdicts that were read are the image's
+found_ok : (o : Option History) (sector : ℕ) (arch : Arch) (policy : Policy) (v : Verdicts) (P : Verdicts → Type 0)
+    → IfSome o (λ h. ◌⊎◌ (◌≡◌ {A = Answer} (Ok v) (Err faults.Disk)) (Gives faults.Memory (verdicts sector (shown h) arch policy) (Ok v)))
+    → P v → IfSome o (λ h. IsOkAnd (verdicts sector (shown h) arch policy) P)
+found_ok None sector arch policy v P answer p = tt
+found_ok (Some h) sector arch policy v P (inl e) p = absurd (cc)
+found_ok (Some h) sector arch policy v P (inr (inl e)) p = subst (λ (answer : Answer). IsOkAnd answer P) e p
+found_ok (Some h) sector arch policy v P (inr (inr e)) p = absurd (cc)
+
+-- a fault that is neither a failure of the disk nor want of memory is the image's
+found_err : (o : Option History) (sector : ℕ) (arch : Arch) (policy : Policy) (fault : DissectFault) (P : DissectFault → Type 0)
+    → (fault ≡ faults.Disk → ⊥) → (fault ≡ faults.Memory → ⊥)
+    → IfSome o (λ h. ◌⊎◌ (◌≡◌ {A = Answer} (Err fault) (Err faults.Disk)) (Gives faults.Memory (verdicts sector (shown h) arch policy) (Err fault)))
+    → P fault → IfSome o (λ h. IsErrAnd (verdicts sector (shown h) arch policy) P)
+found_err None sector arch policy fault P disk memory answer p = tt
+found_err (Some h) sector arch policy fault P disk memory (inl e) p = absurd (disk (same fault faults.Disk e)) where
+  same : (a b : DissectFault) → ◌≡◌ {A = Answer} (Err a) (Err b) → a ≡ b
+  same a b e = cc
+found_err (Some h) sector arch policy fault P disk memory (inr (inl e)) p = subst (λ (answer : Answer). IsErrAnd answer P) e p
+found_err (Some h) sector arch policy fault P disk memory (inr (inr e)) p = absurd (memory (same fault faults.Memory e)) where
+  same : (a b : DissectFault) → ◌≡◌ {A = Answer} (Err a) (Err b) → a ≡ b
+  same a b e = cc
+
+-- the count is as before, unless the disk failed
+kept_of : (answer : Answer) (before now : ℕ) → (answer ≡ Err faults.Disk → ⊥) → (answer ≡ Err faults.Disk) ⊎ (now ≡ before) → now ≡ before
+kept_of answer before now other (inl e) = absurd (other e)
+kept_of answer before now other (inr kept) = kept
+
+module _ (arch : Arch) (sector : ℕ) (json : Bool) (disk later : Device) (out after : Output) (status : ℕ) where
+  by_finish : (p : Policy) (v : Verdicts) → Reads p arch sector disk later (Ok v) → Finishes out after (verdict_report json v) status
+      → DissectByStatus (Ok p) arch sector json disk later out after status
+  by_finish p v reads (inl (e, printed)) = record {
+    only_read = reads.only_read;
+    causes = record {
+      disk_failed = λ f. clash status 0 7 e f (λ h. omega arith);
+      disk_kept = inr (kept_of (Ok v) disk.faults later.faults (λ f. cc) reads.kept);
+      sink_failed = λ f. clash status 0 9 e f (λ h. omega arith);
+      sink_kept = λ f. printed.kept;
+    };
+    one_of = inl e;
+    done = λ f. found_ok (history disk) sector arch p v _ reads.verdicts_are printed;
+    cut = λ f. clash status 0 9 e f (λ h. omega arith);
+    refused = λ f. clash status 0 4 e f (λ h. omega arith);
+    denied = λ f. clash status 0 6 e f (λ h. omega arith);
+    is_refused = λ f. absurd (true≢false (sym f));
+  }
+  by_finish p v reads (inr (e, printed)) = record {
+    only_read = reads.only_read;
+    causes = record {
+      disk_failed = λ f. clash status 9 7 e f (λ h. omega arith);
+      disk_kept = inr (kept_of (Ok v) disk.faults later.faults (λ f. cc) reads.kept);
+      sink_failed = λ f. printed.rose;
+      sink_kept = λ f. clash status 9 0 e f (λ h. omega arith);
+    };
+    one_of = inr (inr (inr (inr (inl e))));
+    done = λ f. clash status 9 0 e f (λ h. omega arith);
+    cut = λ f. found_ok (history disk) sector arch p v _ reads.verdicts_are printed;
+    refused = λ f. clash status 9 4 e f (λ h. omega arith);
+    denied = λ f. clash status 9 6 e f (λ h. omega arith);
+    is_refused = λ f. absurd (true≢false (sym f));
+  }
+
+  by_memory : (p : Policy) → IsOnlyRead disk later → later.faults ≡ disk.faults → status ≡ 10
+      → DissectByStatus (Ok p) arch sector json disk later out after status
+  by_memory p only_read kept e = record {
+    only_read = only_read;
+    causes = record {
+      disk_failed = λ f. clash status 10 7 e f (λ h. omega arith);
+      disk_kept = inr kept;
+      sink_failed = λ f. clash status 10 9 e f (λ h. omega arith);
+      sink_kept = λ f. clash status 10 0 e f (λ h. omega arith);
+    };
+    one_of = inr (inr (inr (inr (inr e))));
+    done = λ f. clash status 10 0 e f (λ h. omega arith);
+    cut = λ f. clash status 10 9 e f (λ h. omega arith);
+    refused = λ f. clash status 10 4 e f (λ h. omega arith);
+    denied = λ f. clash status 10 6 e f (λ h. omega arith);
+    is_refused = λ f. absurd (true≢false (sym f));
+  }
+
+  by_disk : (p : Policy) → Reads p arch sector disk later (Err faults.Disk) → Refuses out after disk_refusal status
+      → DissectByStatus (Ok p) arch sector json disk later out after status
+  by_disk p reads refuses = let e : status ≡ 7 = refuses.answers in record {
+    only_read = reads.only_read;
+    causes = record {
+      disk_failed = λ f. reads.failed refl;
+      disk_kept = inl e;
+      sink_failed = λ f. clash status 7 9 e f (λ h. omega arith);
+      sink_kept = λ f. clash status 7 0 e f (λ h. omega arith);
+    };
+    one_of = inr (inr (inr (inl e)));
+    done = λ f. clash status 7 0 e f (λ h. omega arith);
+    cut = λ f. clash status 7 9 e f (λ h. omega arith);
+    refused = λ f. clash status 7 4 e f (λ h. omega arith);
+    denied = λ f. clash status 7 6 e f (λ h. omega arith);
+    is_refused = λ f. absurd (true≢false (sym f));
+  }
+
+  by_table : (p : Policy) (fault : TableFault) → Reads p arch sector disk later (Err (faults.Table fault)) → (table_refusal fault).status ≡ 4
+      → Refuses out after (table_refusal fault) status → DissectByStatus (Ok p) arch sector json disk later out after status
+  by_table p fault reads image refuses = let e : status ≡ 4 = refuses.answers ∙ image in record {
+    only_read = reads.only_read;
+    causes = record {
+      disk_failed = λ f. clash status 4 7 e f (λ h. omega arith);
+      disk_kept = inr (kept_of (Err (faults.Table fault)) disk.faults later.faults (λ f. cc) reads.kept);
+      sink_failed = λ f. clash status 4 9 e f (λ h. omega arith);
+      sink_kept = λ f. clash status 4 0 e f (λ h. omega arith);
+    };
+    one_of = inr (inl e);
+    done = λ f. clash status 4 0 e f (λ h. omega arith);
+    cut = λ f. clash status 4 9 e f (λ h. omega arith);
+    refused = λ f.
+        found_err (history disk) sector arch p (faults.Table fault) _ (λ f. cc) (λ f. cc) reads.verdicts_are (fault, refl, refuses.printed);
+    denied = λ f. clash status 4 6 e f (λ h. omega arith);
+    is_refused = λ f. absurd (true≢false (sym f));
+  }
+
+  by_denial : (p : Policy) (d : Designator) (rule : Rule) → Reads p arch sector disk later (Err (faults.Denied d rule))
+      → Denies out after d rule status → DissectByStatus (Ok p) arch sector json disk later out after status
+  by_denial p d rule reads denies = let e : status ≡ 6 = denies.answers in record {
+    only_read = reads.only_read;
+    causes = record {
+      disk_failed = λ f. clash status 6 7 e f (λ h. omega arith);
+      disk_kept = inr (kept_of (Err (faults.Denied d rule)) disk.faults later.faults (λ f. cc) reads.kept);
+      sink_failed = λ f. clash status 6 9 e f (λ h. omega arith);
+      sink_kept = λ f. clash status 6 0 e f (λ h. omega arith);
+    };
+    one_of = inr (inr (inl e));
+    done = λ f. clash status 6 0 e f (λ h. omega arith);
+    cut = λ f. clash status 6 9 e f (λ h. omega arith);
+    refused = λ f. clash status 6 4 e f (λ h. omega arith);
+    denied = λ f. inr (found_err (history disk) sector arch p (faults.Denied d rule) _ (λ f. cc) (λ f. cc) reads.verdicts_are
+        (d, (rule, refl, denies.printed)));
+    is_refused = λ f. e;
+  }
+
+  by_answer : (p : Policy) (answer : Answer) → Reads p arch sector disk later answer → Tells json out after status answer
+      → DissectByStatus (Ok p) arch sector json disk later out after status
+  by_answer p (Ok v) reads (inl finishes) = by_finish p v reads finishes
+  by_answer p (Ok v) reads (inr refuses) =
+      by_memory p reads.only_read (kept_of (Ok v) disk.faults later.faults (λ f. cc) reads.kept) refuses.answers
+  by_answer p (Err faults.Disk) reads refuses = by_disk p reads refuses
+  by_answer p (Err faults.Memory) reads refuses =
+      by_memory p reads.only_read (kept_of (Err faults.Memory) disk.faults later.faults (λ f. cc) reads.kept) refuses.answers
+  by_answer p (Err (faults.Denied d rule)) reads denies = by_denial p d rule reads denies
+  by_answer p (Err (faults.Table fault)) reads refuses = elim (fault_status fault) [
+    | inl image ↦ by_table p fault reads image refuses
+    | inr (inl e) ↦ absurd (reads.own.disk (ap faults.Table e))
+    | inr (inr e) ↦ absurd (reads.own.memory (ap faults.Table e))
+  ]
+
+  pub by_status : (read : Result Policy PolicyFault) → DissectsRead arch sector json disk later out after status read
+      → DissectByStatus read arch sector json disk later out after status
+  by_status (Ok p) (answer, reads, tells) = by_answer p answer reads tells
+  by_status (Err fault) (same, refuses) = let e : status ≡ 6 = refuses.answers in record {
+    only_read = subst (IsOnlyRead disk) (sym same) (record { first = refl; calls = refl; strays = unmoved disk.first });
+    causes = record {
+      disk_failed = λ f. clash status 6 7 e f (λ h. omega arith);
+      disk_kept = inr (ap (λ (d : Device). d.faults) same);
+      sink_failed = λ f. clash status 6 9 e f (λ h. omega arith);
+      sink_kept = λ f. clash status 6 0 e f (λ h. omega arith);
+    };
+    one_of = inr (inr (inl e));
+    done = λ f. clash status 6 0 e f (λ h. omega arith);
+    cut = λ f. clash status 6 9 e f (λ h. omega arith);
+    refused = λ f. clash status 6 4 e f (λ h. omega arith);
+    denied = λ f. inl refuses.printed;
+    is_refused = λ f. e;
+  } where
+    unmoved : (o : Option (List ℕ)) → IfSome o (λ _. disk.strays ≡ disk.strays)
+    unmoved None = tt
+    unmoved (Some bytes) = refl

@@ -1,0 +1,2 @@
+pub mod Dissects
+pub mod Statuses

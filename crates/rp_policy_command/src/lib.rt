@@ -1,0 +1,10 @@
+//! The commands `policy` and `compare`: they print what policies say, and ask no disk.
+#![tactic(auto)]
+
+mod commands;
+mod law;
+#[cfg(test)]
+mod tests;
+
+pub use commands::{DIFFERS, compare, policy};
+pub use law::{compare_by_status, policy_by_status};

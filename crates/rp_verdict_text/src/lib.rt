@@ -1,0 +1,9 @@
+//! The texts that the program prints of a policy's verdicts.
+#![tactic(auto)]
+
+mod json;
+mod lines;
+#[cfg(test)]
+mod tests;
+
+pub use lines::verdict_text;
