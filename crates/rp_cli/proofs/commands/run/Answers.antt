@@ -42,5 +42,8 @@ pub returns-in_default : goal.returns-in_default
 returns-in_default g c = elim (asks_for (map string_bytes c.args.words.now) c.in-Ok.line (sym c.in-Ok.ensures.line)) [
   | inl show ↦ absurd (c.in_default.not-Show show)
   | inr (inl plan) ↦ absurd (c.in_default.not-Plan plan)
-  | inr (inr none) ↦ absurd none
+  | inr (inr (inl dissect)) ↦ absurd (c.in_default.not-Dissect dissect)
+  | inr (inr (inr (inl policy))) ↦ absurd (c.in_default.not-Policy policy)
+  | inr (inr (inr (inr (inl compare)))) ↦ absurd (c.in_default.not-Compare compare)
+  | inr (inr (inr (inr (inr none)))) ↦ absurd none
 ]
