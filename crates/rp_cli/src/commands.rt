@@ -100,15 +100,9 @@ pub fn run<D: Disk, F: Folders, S: Sources, K: Sink>(
         Ok(line) => match line.command {
             Command::Show => show(alloc, line.sector, line.json, disk, out),
             Command::Plan => run_plan(alloc, line, words, disk, folders, sources, out),
-            Command::Dissect => {
-                let text = text_of(Opt::Policy, words);
-                dissect(alloc, text, line.arch, line.sector, line.json, disk, out)
-            }
-            Command::Policy => policy(alloc, text_of(Opt::Policy, words), out),
-            Command::Compare => {
-                let text = text_of(Opt::Policy, words);
-                compare(alloc, text, text_of(Opt::Against, words), out)
-            }
+            Command::Dissect => run_dissect(alloc, line, words, disk, out),
+            Command::Policy => run_policy(alloc, words, out),
+            Command::Compare => run_compare(alloc, words, out),
             // No line asks for a command that isn't built yet.
             _ => refuse(out, &Refusal::words()),
         },
@@ -158,4 +152,35 @@ fn request_of(line: Line) -> Request
         size: line.size,
         sector: line.sector,
     }
+}
+
+fn run_dissect<D: Disk, K: Sink>(
+    alloc: Global,
+    line: Line,
+    words: &[String],
+    disk: &mut D,
+    out: &mut K,
+) -> u8
+    requires { IsSector line.sector }
+    ensures { Dissects (text_in Opt.Policy (map string_bytes words.now)) line.arch line.sector line.json
+        (device D.first D.calls D.faults D.strays disk.old) (device D.first D.calls D.faults D.strays disk.new)
+        (output K.told K.faults out.old) (output K.told K.faults out.new) result }
+{
+    let text = text_of(Opt::Policy, words);
+    dissect(alloc, text, line.arch, line.sector, line.json, disk, out)
+}
+
+fn run_policy<K: Sink>(alloc: Global, words: &[String], out: &mut K) -> u8
+    ensures { PrintsPolicy (text_in Opt.Policy (map string_bytes words.now))
+        (output K.told K.faults out.old) (output K.told K.faults out.new) result }
+{
+    policy(alloc, text_of(Opt::Policy, words), out)
+}
+
+fn run_compare<K: Sink>(alloc: Global, words: &[String], out: &mut K) -> u8
+    ensures { Compares (text_in Opt.Policy (map string_bytes words.now)) (text_in Opt.Against (map string_bytes words.now))
+        (output K.told K.faults out.old) (output K.told K.faults out.new) result }
+{
+    let text = text_of(Opt::Policy, words);
+    compare(alloc, text, text_of(Opt::Against, words), out)
 }
