@@ -79,7 +79,7 @@ module _ (arch : Arch) (sector : ℕ) (json : Bool) (disk later : Device) (out a
       sink_kept = λ f. printed.kept;
     };
     one_of = inl e;
-    done = λ f. (v, (says (history disk) sector arch p (Ok v) (λ f. cc) (λ f. cc) reads.verdicts_are, printed));
+    done = λ f. (v, says (history disk) sector arch p (Ok v) (λ f. cc) (λ f. cc) reads.verdicts_are, printed);
     cut = λ f. clash status 0 9 e f (λ h. omega arith);
     refused = λ f. clash status 0 4 e f (λ h. omega arith);
     denied = λ f. clash status 0 6 e f (λ h. omega arith);
@@ -98,7 +98,7 @@ module _ (arch : Arch) (sector : ℕ) (json : Bool) (disk later : Device) (out a
     };
     one_of = inr (inr (inr (inr (inl e))));
     done = λ f. clash status 9 0 e f (λ h. omega arith);
-    cut = λ f. (v, (says (history disk) sector arch p (Ok v) (λ f. cc) (λ f. cc) reads.verdicts_are, printed));
+    cut = λ f. (v, says (history disk) sector arch p (Ok v) (λ f. cc) (λ f. cc) reads.verdicts_are, printed);
     refused = λ f. clash status 9 4 e f (λ h. omega arith);
     denied = λ f. clash status 9 6 e f (λ h. omega arith);
     disk_line = λ f. clash status 9 7 e f (λ h. omega arith);
@@ -164,7 +164,7 @@ module _ (arch : Arch) (sector : ℕ) (json : Bool) (disk later : Device) (out a
     cut = λ f. clash status 4 9 e f (λ h. omega arith);
     refused = λ f.
         let is = says (history disk) sector arch p (Err (faults.Table fault)) (λ f. cc) (λ f. cc) reads.verdicts_are in
-        (fault, (image, (is, refuses.printed)));
+        (fault, image, is, refuses.printed);
     denied = λ f. clash status 4 6 e f (λ h. omega arith);
     disk_line = λ f. clash status 4 7 e f (λ h. omega arith);
     nothing = λ f. clash status 4 10 e f (λ h. omega arith);
@@ -188,7 +188,7 @@ module _ (arch : Arch) (sector : ℕ) (json : Bool) (disk later : Device) (out a
     refused = λ f. clash status 6 4 e f (λ h. omega arith);
     denied = λ f.
         let is = says (history disk) sector arch p (Err (faults.Denied d rule)) (λ f. cc) (λ f. cc) reads.verdicts_are in
-        inr (d, (rule, (is, denies.printed)));
+        inr (d, (rule, is, denies.printed));
     disk_line = λ f. clash status 6 7 e f (λ h. omega arith);
     nothing = λ f. clash status 6 10 e f (λ h. omega arith);
     is_refused = λ f. e;
