@@ -1,11 +1,11 @@
-//! `repart`: shows and plans the partition table of a raw disk image.
+//! `repart`: shows and plans the partition table of a raw disk image, and judges it by an image policy.
 #![tactic(auto)]
 
 use rp_cli::run;
 use rp_disk::FileDisk;
 use rp_io::{HostFolders, HostSink, HostSources};
 use rp_outcome::{MEMORY, WORDS, finish};
-use rp_words::{help_text, hint_of};
+use rp_words::{has_image, help_text, hint_of};
 use std::io::{self, ErrorKind};
 use std::os::unix::fs::MetadataExt;
 use std::process::ExitCode;
@@ -67,10 +67,13 @@ fn run_words(rt: &HostRuntime, words: &[String]) -> u8 {
     )
 }
 
-// The path of the image: the last word, where it isn't the path of what is neither a file nor a block device. A folder
-// can be opened for reading too, and opening a pipe may wait without end; no path stands for them.
+// The path of the image: the last word of a command that has one, where it isn't the path of what is neither a file nor a
+// block device. A folder can be opened for reading too, and opening a pipe may wait without end; no path stands for them.
 fn image_of<'a>(rt: &HostRuntime, words: &'a [String]) -> &'a str {
-    let path = words.last().map_or("", |word| word.as_str());
+    let path = match words {
+        [.., word] if has_image(words) => word.as_str(),
+        _ => "",
+    };
     match fs::metadata(rt, path) {
         Ok(found) if found.is_file() || found.mode() & TYPE_BITS == BLOCK_DEVICE => path,
         _ => "",

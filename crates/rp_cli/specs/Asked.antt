@@ -20,3 +20,11 @@ abbrev pub PlansAsked : Request → Bool → List (List ℕ) → Store Tree → 
 PlansAsked request json dirs folders read disk later sources drained out after status =
     Plans request json dirs folders read disk later sources drained out after status
     ⊎ ((read ≡ folders) × (later ≡ disk) × (drained ≡ sources) × Refuses out after memory_refusal status)
+
+-- folders and sources are as before: nothing was asked of them
+abbrev pub AreAsBefore : Store Tree → Store Tree → Store (List Stored) → Store (List Stored) → Type 0
+AreAsBefore folders read sources drained = (read ≡ folders) × (drained ≡ sources)
+
+-- the disk too
+abbrev pub AreUnasked : Store Tree → Store Tree → Device → Device → Store (List Stored) → Store (List Stored) → Type 0
+AreUnasked folders read disk later sources drained = (read ≡ folders) × (later ≡ disk) × (drained ≡ sources)

@@ -1,22 +1,26 @@
 ghost use Rattle.std.specs.Prelude.{◌≡◌, ◌↔◌, IfOk, IsErr, map, string_bytes};
 ghost use Rattle.rp_base.specs.Geometry.{IsSector};
-ghost use Rattle.rp_cli.specs.Asked.{PlansAsked, request_of as request_of_line};
+ghost use Rattle.rp_cli.specs.Asked.{AreAsBefore, AreUnasked, PlansAsked, request_of as request_of_line};
+ghost use Rattle.rp_dissect_command.specs.Dissects.{Dissects};
 ghost use Rattle.rp_outcome.specs.Causes.{HasCauses};
 ghost use Rattle.rp_outcome.specs.Device.{IsOnlyRead, device};
 ghost use Rattle.rp_outcome.specs.Output.{Refuses, output};
 ghost use Rattle.rp_outcome.specs.Refusals.{words_refusal};
 ghost use Rattle.rp_outcome.specs.Store.{store};
 ghost use Rattle.rp_planned.specs.Files.{HasFileCauses};
+ghost use Rattle.rp_policy_command.specs.Commands.{Compares, PrintsPolicy};
 ghost use Rattle.rp_show.specs.Shows.{Shows};
 ghost use Rattle.rp_words.specs.Line.{line_of, text_in};
 ghost use Rattle.rp_words.specs.Values.{IsSize, paths_of};
 
 use rp_base::Memory;
 use rp_disk::Disk;
+use rp_dissect_command::dissect;
 use rp_io::{Folders, Sink, Sources};
 use rp_outcome::{Refusal, refuse};
 use rp_plan_command::plan;
 use rp_planned::Request;
+use rp_policy_command::{compare, policy};
 use rp_show::show;
 use rp_words::{Command, Line, Opt, read_line, read_paths, text_of};
 use std::alloc::Global;
@@ -25,10 +29,11 @@ use std::alloc::Global;
 /// the exit status. The words don't hold the program's name. The disk is the image; the word that names it is for the
 /// caller.
 ///
-/// Statuses: 0 done; 2 the words aren't canonical; 3 the definition files are no list of definitions; 4 the image isn't
-/// accepted; 5 what the definitions ask for can't be had; 7 the disk failed; 8 the folders or the sources failed; 9 the sink
-/// failed once all else was done; 10 out of memory. A status but 0, 9 and 10 prints its line `error STATUS ..`.
-#[tactic(auto, using(crate::proofs::Promised::plan_only_read, crate::proofs::Promised::plan_causes, crate::proofs::Promised::plan_files, crate::proofs::Promised::plan_words, crate::proofs::Promised::show_files, crate::proofs::Promised::words_files))]
+/// Statuses: 0 done; 1 `compare` told a difference; 2 the words aren't canonical; 3 the definition files are no list of
+/// definitions; 4 the image isn't accepted; 5 what the definitions ask for can't be had; 6 a text is no policy, or the policy
+/// denies the image; 7 the disk failed; 8 the folders or the sources failed; 9 the sink failed once all else was done; 10 out
+/// of memory. A status but 0, 1, 9 and 10 prints its line `error STATUS ..`, or of a denial `denied ..`.
+#[tactic(auto, using(crate::proofs::Promised::plan_only_read, crate::proofs::Promised::plan_causes, crate::proofs::Promised::plan_files, crate::proofs::Promised::plan_words, crate::proofs::Promised::show_files, crate::proofs::Promised::words_files, crate::proofs::Policies::dissect_only_read, crate::proofs::Policies::dissect_causes, crate::proofs::Policies::dissect_files, crate::proofs::Policies::dissect_words, crate::proofs::Policies::policy_causes, crate::proofs::Policies::policy_files, crate::proofs::Policies::policy_words, crate::proofs::Policies::compare_causes, crate::proofs::Policies::compare_files, crate::proofs::Policies::compare_words))]
 pub fn run<D: Disk, F: Folders, S: Sources, K: Sink>(
     alloc: Global,
     words: &[String],
@@ -39,17 +44,45 @@ pub fn run<D: Disk, F: Folders, S: Sources, K: Sink>(
 ) -> u8
     ensures words { (result ≡ 2) ↔ IsErr (line_of (map string_bytes words.now)) }
     ensures refused { IsErr (line_of (map string_bytes words.now))
-        → Refuses (output K.told K.faults out.old) (output K.told K.faults out.new) words_refusal result }
+        → Refuses (output K.told K.faults out.old) (output K.told K.faults out.new) words_refusal result
+        × AreUnasked
+        (store F.told F.faults F.strays folders.old) (store F.told F.faults F.strays folders.new)
+        (device D.first D.calls D.faults D.strays disk.old) (device D.first D.calls D.faults D.strays disk.new)
+        (store S.told S.faults S.strays sources.old) (store S.told S.faults S.strays sources.new) }
     ensures show { IfOk (line_of (map string_bytes words.now)) (λ line. line.command ≡ Command.Show
         → Shows line.sector line.json
         (device D.first D.calls D.faults D.strays disk.old) (device D.first D.calls D.faults D.strays disk.new)
-        (output K.told K.faults out.old) (output K.told K.faults out.new) result) }
+        (output K.told K.faults out.old) (output K.told K.faults out.new) result
+        × AreAsBefore
+        (store F.told F.faults F.strays folders.old) (store F.told F.faults F.strays folders.new)
+        (store S.told S.faults S.strays sources.old) (store S.told S.faults S.strays sources.new)) }
     ensures plan { IfOk (line_of (map string_bytes words.now)) (λ line. line.command ≡ Command.Plan
         → PlansAsked (request_of_line line) line.json (paths_of (text_in Opt.Definitions (map string_bytes words.now)))
         (store F.told F.faults F.strays folders.old) (store F.told F.faults F.strays folders.new)
         (device D.first D.calls D.faults D.strays disk.old) (device D.first D.calls D.faults D.strays disk.new)
         (store S.told S.faults S.strays sources.old) (store S.told S.faults S.strays sources.new)
         (output K.told K.faults out.old) (output K.told K.faults out.new) result) }
+    ensures dissect { IfOk (line_of (map string_bytes words.now)) (λ line. line.command ≡ Command.Dissect
+        → Dissects (text_in Opt.Policy (map string_bytes words.now)) line.arch line.sector line.json
+        (device D.first D.calls D.faults D.strays disk.old) (device D.first D.calls D.faults D.strays disk.new)
+        (output K.told K.faults out.old) (output K.told K.faults out.new) result
+        × AreAsBefore
+        (store F.told F.faults F.strays folders.old) (store F.told F.faults F.strays folders.new)
+        (store S.told S.faults S.strays sources.old) (store S.told S.faults S.strays sources.new)) }
+    ensures policy { IfOk (line_of (map string_bytes words.now)) (λ line. line.command ≡ Command.Policy
+        → PrintsPolicy (text_in Opt.Policy (map string_bytes words.now))
+        (output K.told K.faults out.old) (output K.told K.faults out.new) result
+        × AreUnasked
+        (store F.told F.faults F.strays folders.old) (store F.told F.faults F.strays folders.new)
+        (device D.first D.calls D.faults D.strays disk.old) (device D.first D.calls D.faults D.strays disk.new)
+        (store S.told S.faults S.strays sources.old) (store S.told S.faults S.strays sources.new)) }
+    ensures compare { IfOk (line_of (map string_bytes words.now)) (λ line. line.command ≡ Command.Compare
+        → Compares (text_in Opt.Policy (map string_bytes words.now)) (text_in Opt.Against (map string_bytes words.now))
+        (output K.told K.faults out.old) (output K.told K.faults out.new) result
+        × AreUnasked
+        (store F.told F.faults F.strays folders.old) (store F.told F.faults F.strays folders.new)
+        (device D.first D.calls D.faults D.strays disk.old) (device D.first D.calls D.faults D.strays disk.new)
+        (store S.told S.faults S.strays sources.old) (store S.told S.faults S.strays sources.new)) }
 
     // Of every command: no call may change the disk, and a failure has its status.
     ensures only_read { IsOnlyRead
@@ -67,6 +100,9 @@ pub fn run<D: Disk, F: Folders, S: Sources, K: Sink>(
         Ok(line) => match line.command {
             Command::Show => show(alloc, line.sector, line.json, disk, out),
             Command::Plan => run_plan(alloc, line, words, disk, folders, sources, out),
+            Command::Dissect => run_dissect(alloc, line, words, disk, out),
+            Command::Policy => run_policy(alloc, words, out),
+            Command::Compare => run_compare(alloc, words, out),
             // No line asks for a command that isn't built yet.
             _ => refuse(out, &Refusal::words()),
         },
@@ -116,4 +152,35 @@ fn request_of(line: Line) -> Request
         size: line.size,
         sector: line.sector,
     }
+}
+
+fn run_dissect<D: Disk, K: Sink>(
+    alloc: Global,
+    line: Line,
+    words: &[String],
+    disk: &mut D,
+    out: &mut K,
+) -> u8
+    requires { IsSector line.sector }
+    ensures { Dissects (text_in Opt.Policy (map string_bytes words.now)) line.arch line.sector line.json
+        (device D.first D.calls D.faults D.strays disk.old) (device D.first D.calls D.faults D.strays disk.new)
+        (output K.told K.faults out.old) (output K.told K.faults out.new) result }
+{
+    let text = text_of(Opt::Policy, words);
+    dissect(alloc, text, line.arch, line.sector, line.json, disk, out)
+}
+
+fn run_policy<K: Sink>(alloc: Global, words: &[String], out: &mut K) -> u8
+    ensures { PrintsPolicy (text_in Opt.Policy (map string_bytes words.now))
+        (output K.told K.faults out.old) (output K.told K.faults out.new) result }
+{
+    policy(alloc, text_of(Opt::Policy, words), out)
+}
+
+fn run_compare<K: Sink>(alloc: Global, words: &[String], out: &mut K) -> u8
+    ensures { Compares (text_in Opt.Policy (map string_bytes words.now)) (text_in Opt.Against (map string_bytes words.now))
+        (output K.told K.faults out.old) (output K.told K.faults out.new) result }
+{
+    let text = text_of(Opt::Policy, words);
+    compare(alloc, text, text_of(Opt::Against, words), out)
 }

@@ -1,6 +1,6 @@
 -- What `dissect` promises, by its exit status.
-use Rattle.std.proofs.Common.{ℕ, ◌≡◌, ◌⊎◌, List, Bool, Option, Some, None, Result, Ok, Err, refl, sym, ◌∙◌, ap, subst, inl, inr, arith, true≢false}
-use Rattle.std.specs.Prelude.{IfSome, IsOkAnd, IsErrAnd}
+use Rattle.std.proofs.Common.{ℕ, ◌≡◌, ◌⊎◌, List, [], Bool, Option, Some, None, Result, Ok, Err, refl, sym, ◌∙◌, ap, subst, inl, inr, arith, true≢false}
+use Rattle.std.specs.Prelude.{IfSome}
 use Rattle.rp_base.specs.Answers.{Gives}
 use Rattle.rp_base.specs.Faults.{Rose}
 use Rattle.rp_denial.specs.Denials.{Denies}
@@ -12,8 +12,8 @@ use Rattle.rp_gpt.specs.declared.table_fault.TableFault.{TableFault}
 use Rattle.rp_gpt.specs.declared.table_fault.TableFault.TheVariants as table
 use Rattle.rp_outcome.specs.Causes.{HasCauses}
 use Rattle.rp_outcome.specs.Device.{Device, IsOnlyRead, history}
-use Rattle.rp_outcome.specs.Output.{Output, Finishes, Refuses}
-use Rattle.rp_outcome.specs.Refusals.{disk_refusal, table_refusal}
+use Rattle.rp_outcome.specs.Output.{Output, Finishes, Prints, Refuses}
+use Rattle.rp_outcome.specs.Refusals.{disk_refusal, line_of, memory_refusal, table_refusal}
 use Rattle.rp_policy.specs.declared.judging.Rule.{Rule}
 use Rattle.rp_policy.specs.declared.policy.Policy.{Policy}
 use Rattle.rp_policy.specs.declared.policy.PolicyFault.{PolicyFault}
@@ -47,28 +47,20 @@ fault_status (table.RowRange slot) = inl refl
 fault_status (table.Overlap a b) = inl refl
 fault_status table.Memory = inr (inr refl)
 
--- verdicts that were read are the image's
-found_ok : (o : Option History) (sector : ℕ) (arch : Arch) (policy : Policy) (v : Verdicts) (P : Verdicts → Type 0)
-    → IfSome o (λ h. ◌⊎◌ (◌≡◌ {A = Answer} (Ok v) (Err faults.Disk)) (Gives faults.Memory (verdicts sector (shown h) arch policy) (Ok v)))
-    → P v → IfSome o (λ h. IsOkAnd (verdicts sector (shown h) arch policy) P)
-found_ok None sector arch policy v P answer p = tt
-found_ok (Some h) sector arch policy v P (inl e) p = absurd (cc)
-found_ok (Some h) sector arch policy v P (inr (inl e)) p = subst (λ (answer : Answer). IsOkAnd answer P) e p
-found_ok (Some h) sector arch policy v P (inr (inr e)) p = absurd (cc)
+-- the answer of a read that told no failure of the disk and no want of memory is what the policy says of the image
+says : (o : Option History) (sector : ℕ) (arch : Arch) (policy : Policy) (answer : Answer) → (answer ≡ Err faults.Disk → ⊥)
+    → (answer ≡ Err faults.Memory → ⊥)
+    → IfSome o (λ h. (answer ≡ Err faults.Disk) ⊎ Gives faults.Memory (verdicts sector (shown h) arch policy) answer)
+    → IfSome o (λ h. verdicts sector (shown h) arch policy ≡ answer)
+says None sector arch policy answer disk memory given = tt
+says (Some h) sector arch policy answer disk memory (inl e) = absurd (disk e)
+says (Some h) sector arch policy answer disk memory (inr (inl e)) = sym e
+says (Some h) sector arch policy answer disk memory (inr (inr e)) = absurd (memory e)
 
--- a fault that is neither a failure of the disk nor want of memory is the image's
-found_err : (o : Option History) (sector : ℕ) (arch : Arch) (policy : Policy) (fault : DissectFault) (P : DissectFault → Type 0)
-    → (fault ≡ faults.Disk → ⊥) → (fault ≡ faults.Memory → ⊥)
-    → IfSome o (λ h. ◌⊎◌ (◌≡◌ {A = Answer} (Err fault) (Err faults.Disk)) (Gives faults.Memory (verdicts sector (shown h) arch policy) (Err fault)))
-    → P fault → IfSome o (λ h. IsErrAnd (verdicts sector (shown h) arch policy) P)
-found_err None sector arch policy fault P disk memory answer p = tt
-found_err (Some h) sector arch policy fault P disk memory (inl e) p = absurd (disk (same fault faults.Disk e)) where
-  same : (a b : DissectFault) → ◌≡◌ {A = Answer} (Err a) (Err b) → a ≡ b
-  same a b e = cc
-found_err (Some h) sector arch policy fault P disk memory (inr (inl e)) p = subst (λ (answer : Answer). IsErrAnd answer P) e p
-found_err (Some h) sector arch policy fault P disk memory (inr (inr e)) p = absurd (memory (same fault faults.Memory e)) where
-  same : (a b : DissectFault) → ◌≡◌ {A = Answer} (Err a) (Err b) → a ≡ b
-  same a b e = cc
+-- want of memory prints nothing
+nothing_printed : (out after : Output) (status : ℕ) → Refuses out after memory_refusal status → Prints out after []
+unfolding line_of
+nothing_printed out after status refuses = refuses.printed
 
 -- the count is as before, unless the disk failed
 kept_of : (answer : Answer) (before now : ℕ) → (answer ≡ Err faults.Disk → ⊥) → (answer ≡ Err faults.Disk) ⊎ (now ≡ before) → now ≡ before
@@ -87,11 +79,14 @@ module _ (arch : Arch) (sector : ℕ) (json : Bool) (disk later : Device) (out a
       sink_kept = λ f. printed.kept;
     };
     one_of = inl e;
-    done = λ f. found_ok (history disk) sector arch p v _ reads.verdicts_are printed;
+    done = λ f. (v, says (history disk) sector arch p (Ok v) (λ f. cc) (λ f. cc) reads.verdicts_are, printed);
     cut = λ f. clash status 0 9 e f (λ h. omega arith);
     refused = λ f. clash status 0 4 e f (λ h. omega arith);
     denied = λ f. clash status 0 6 e f (λ h. omega arith);
+    disk_line = λ f. clash status 0 7 e f (λ h. omega arith);
+    nothing = λ f. clash status 0 10 e f (λ h. omega arith);
     is_refused = λ f. absurd (true≢false (sym f));
+    untouched = λ f. absurd (true≢false (sym f));
   }
   by_finish p v reads (inr (e, printed)) = record {
     only_read = reads.only_read;
@@ -103,15 +98,18 @@ module _ (arch : Arch) (sector : ℕ) (json : Bool) (disk later : Device) (out a
     };
     one_of = inr (inr (inr (inr (inl e))));
     done = λ f. clash status 9 0 e f (λ h. omega arith);
-    cut = λ f. found_ok (history disk) sector arch p v _ reads.verdicts_are printed;
+    cut = λ f. (v, says (history disk) sector arch p (Ok v) (λ f. cc) (λ f. cc) reads.verdicts_are, printed);
     refused = λ f. clash status 9 4 e f (λ h. omega arith);
     denied = λ f. clash status 9 6 e f (λ h. omega arith);
+    disk_line = λ f. clash status 9 7 e f (λ h. omega arith);
+    nothing = λ f. clash status 9 10 e f (λ h. omega arith);
     is_refused = λ f. absurd (true≢false (sym f));
+    untouched = λ f. absurd (true≢false (sym f));
   }
 
-  by_memory : (p : Policy) → IsOnlyRead disk later → later.faults ≡ disk.faults → status ≡ 10
+  by_memory : (p : Policy) → IsOnlyRead disk later → later.faults ≡ disk.faults → Refuses out after memory_refusal status
       → DissectByStatus (Ok p) arch sector json disk later out after status
-  by_memory p only_read kept e = record {
+  by_memory p only_read kept refuses = let e : status ≡ 10 = refuses.answers in record {
     only_read = only_read;
     causes = record {
       disk_failed = λ f. clash status 10 7 e f (λ h. omega arith);
@@ -124,7 +122,10 @@ module _ (arch : Arch) (sector : ℕ) (json : Bool) (disk later : Device) (out a
     cut = λ f. clash status 10 9 e f (λ h. omega arith);
     refused = λ f. clash status 10 4 e f (λ h. omega arith);
     denied = λ f. clash status 10 6 e f (λ h. omega arith);
+    disk_line = λ f. clash status 10 7 e f (λ h. omega arith);
+    nothing = λ f. nothing_printed out after status refuses;
     is_refused = λ f. absurd (true≢false (sym f));
+    untouched = λ f. absurd (true≢false (sym f));
   }
 
   by_disk : (p : Policy) → Reads p arch sector disk later (Err faults.Disk) → Refuses out after disk_refusal status
@@ -142,7 +143,10 @@ module _ (arch : Arch) (sector : ℕ) (json : Bool) (disk later : Device) (out a
     cut = λ f. clash status 7 9 e f (λ h. omega arith);
     refused = λ f. clash status 7 4 e f (λ h. omega arith);
     denied = λ f. clash status 7 6 e f (λ h. omega arith);
+    disk_line = λ f. refuses.printed;
+    nothing = λ f. clash status 7 10 e f (λ h. omega arith);
     is_refused = λ f. absurd (true≢false (sym f));
+    untouched = λ f. absurd (true≢false (sym f));
   }
 
   by_table : (p : Policy) (fault : TableFault) → Reads p arch sector disk later (Err (faults.Table fault)) → (table_refusal fault).status ≡ 4
@@ -159,9 +163,13 @@ module _ (arch : Arch) (sector : ℕ) (json : Bool) (disk later : Device) (out a
     done = λ f. clash status 4 0 e f (λ h. omega arith);
     cut = λ f. clash status 4 9 e f (λ h. omega arith);
     refused = λ f.
-        found_err (history disk) sector arch p (faults.Table fault) _ (λ f. cc) (λ f. cc) reads.verdicts_are (fault, refl, refuses.printed);
+        let is = says (history disk) sector arch p (Err (faults.Table fault)) (λ f. cc) (λ f. cc) reads.verdicts_are in
+        (fault, image, is, refuses.printed);
     denied = λ f. clash status 4 6 e f (λ h. omega arith);
+    disk_line = λ f. clash status 4 7 e f (λ h. omega arith);
+    nothing = λ f. clash status 4 10 e f (λ h. omega arith);
     is_refused = λ f. absurd (true≢false (sym f));
+    untouched = λ f. absurd (true≢false (sym f));
   }
 
   by_denial : (p : Policy) (d : Designator) (rule : Rule) → Reads p arch sector disk later (Err (faults.Denied d rule))
@@ -178,19 +186,23 @@ module _ (arch : Arch) (sector : ℕ) (json : Bool) (disk later : Device) (out a
     done = λ f. clash status 6 0 e f (λ h. omega arith);
     cut = λ f. clash status 6 9 e f (λ h. omega arith);
     refused = λ f. clash status 6 4 e f (λ h. omega arith);
-    denied = λ f. inr (found_err (history disk) sector arch p (faults.Denied d rule) _ (λ f. cc) (λ f. cc) reads.verdicts_are
-        (d, (rule, refl, denies.printed)));
+    denied = λ f.
+        let is = says (history disk) sector arch p (Err (faults.Denied d rule)) (λ f. cc) (λ f. cc) reads.verdicts_are in
+        inr (d, (rule, is, denies.printed));
+    disk_line = λ f. clash status 6 7 e f (λ h. omega arith);
+    nothing = λ f. clash status 6 10 e f (λ h. omega arith);
     is_refused = λ f. e;
+    untouched = λ f. absurd (true≢false (sym f));
   }
 
   by_answer : (p : Policy) (answer : Answer) → Reads p arch sector disk later answer → Tells json out after status answer
       → DissectByStatus (Ok p) arch sector json disk later out after status
   by_answer p (Ok v) reads (inl finishes) = by_finish p v reads finishes
   by_answer p (Ok v) reads (inr refuses) =
-      by_memory p reads.only_read (kept_of (Ok v) disk.faults later.faults (λ f. cc) reads.kept) refuses.answers
+      by_memory p reads.only_read (kept_of (Ok v) disk.faults later.faults (λ f. cc) reads.kept) refuses
   by_answer p (Err faults.Disk) reads refuses = by_disk p reads refuses
   by_answer p (Err faults.Memory) reads refuses =
-      by_memory p reads.only_read (kept_of (Err faults.Memory) disk.faults later.faults (λ f. cc) reads.kept) refuses.answers
+      by_memory p reads.only_read (kept_of (Err faults.Memory) disk.faults later.faults (λ f. cc) reads.kept) refuses
   by_answer p (Err (faults.Denied d rule)) reads denies = by_denial p d rule reads denies
   by_answer p (Err (faults.Table fault)) reads refuses = elim (fault_status fault) [
     | inl image ↦ by_table p fault reads image refuses
@@ -214,7 +226,10 @@ module _ (arch : Arch) (sector : ℕ) (json : Bool) (disk later : Device) (out a
     cut = λ f. clash status 6 9 e f (λ h. omega arith);
     refused = λ f. clash status 6 4 e f (λ h. omega arith);
     denied = λ f. inl refuses.printed;
+    disk_line = λ f. clash status 6 7 e f (λ h. omega arith);
+    nothing = λ f. clash status 6 10 e f (λ h. omega arith);
     is_refused = λ f. e;
+    untouched = λ f. same;
   } where
     unmoved : (o : Option (List ℕ)) → IfSome o (λ _. disk.strays ≡ disk.strays)
     unmoved None = tt

@@ -1,9 +1,9 @@
 -- What a comparison says of all that may be found.
 use Rattle.std.proofs.Common.{inl, inr, subst, ◌≡◌, ℕ, zero, suc, ◌+◌, ◌<◌, ◌≤◌, Bool, true, false, not, ◌&&◌, cond, List, [], ◌∷◌, map, length, get_or, Option, Some, None, arith, refl, ap, sym, ◌∙◌, lit<}
-use Rattle.std.specs.Prelude.{find, option_map}
-use Rattle.std.specs.List.{flat_map, range_with_len}
+use Rattle.std.specs.Prelude.{find, nat_le, option_map}
+use Rattle.std.specs.List.{flat_map, list_all, range_with_len}
 use Rattle.std.specs.Option.{option_or}
-use Rattle.std.proofs.lemmas.Bool.{and_parts, cases_Bool, cases_lt}
+use Rattle.std.proofs.lemmas.Bool.{and_parts, cases_Bool, cases_lt, leb-true}
 use Rattle.std.proofs.lemmas.List.Folds.{find-append}
 use Rattle.rp_types.specs.declared.arch.Designator.{Designator}
 use Rattle.rp_types.specs.declared.arch.Designator.TheVariants.{Root, Usr, Home, Srv, Esp, Xbootldr, Swap, RootVerity, RootVeritySig, UsrVerity, UsrVeritySig, Tmp, Var}
@@ -144,27 +144,57 @@ beyond a b found is =
       ],
     )
 
+-- whether a record of facts may be found
+abbrev is_found : Option Found → Bool
+is_found None = true
+is_found (Some f) = nat_le 1 f.kinds.0 && nat_le f.kinds.0 15
+
+all_are_found : list_all is_found all_found ≡ true
+unfolding all_found
+all_are_found = refl
+
+may_be_found : (found : Option Found) → is_found found ≡ true → IsFound found
+may_be_found None is = tt
+may_be_found (Some f) is =
+    let parts = and_parts (nat_le 1 f.kinds.0) (nat_le f.kinds.0 15) is in
+    (leb-true 1 f.kinds.0 parts.0, leb-true f.kinds.0 15 parts.1)
+
+-- what is found among those that all pass a test, passes it
+found_among : {X : Type 0} (p q : X → Bool) (xs : List X) (x : X) → list_all q xs ≡ true → find p xs ≡ Some x → q x ≡ true
+found_among p q [] x all is = cc
+found_among p q (y ∷ ys) x all is =
+    let parts = and_parts (q y) (list_all q ys) all in
+    elim (cases_Bool (p y)) [
+      | inl t ↦
+          let here : Some y ≡ Some x = sym (ap (λ b. cond b (Some y) (find p ys)) t) ∙ is in
+          let same : y ≡ x = cc in
+          subst (λ z. q z ≡ true) same parts.0
+      | inr t ↦ found_among p q ys x parts.1 (sym (ap (λ b. cond b (Some y) (find p ys)) t) ∙ is)
+    ]
+
+-- it may be found, and one policy allows it, and another denies it
+abbrev pub IsBetween : Policy → Policy → Counter → Type 0
+IsBetween a b c =
+    IsFound c.found × (allows (flags_of a c.designator).0 c.found ≡ true) × (allows (flags_of b c.designator).0 c.found ≡ false)
+
 of_first : (a b : Policy) (d : Designator) (r : Option (Option Found)) (c : Counter)
     → find (is_beyond (flags_of a d).0 (flags_of b d).0) all_found ≡ r
     → option_map (λ found. record { designator = d; found = found }) r ≡ Some c
-    → (allows (flags_of a c.designator).0 c.found ≡ true) × (allows (flags_of b c.designator).0 c.found ≡ false)
+    → IsBetween a b c
 of_first a b d None c is same = cc
 of_first a b d (Some found) c is same =
     let counter : record { designator = d; found = found } ≡ c = cc in
-    subst (λ (x : Counter). (allows (flags_of a x.designator).0 x.found ≡ true) ×
-    (allows (flags_of b x.designator).0 x.found ≡ false)) counter
-    (beyond (flags_of a d).0 (flags_of b d).0 found (found_passes (is_beyond (flags_of a d).0 (flags_of b d).0) all_found found is))
+    let test = is_beyond (flags_of a d).0 (flags_of b d).0 in
+    let parts = beyond (flags_of a d).0 (flags_of b d).0 found (found_passes test all_found found is) in
+    let may = may_be_found found (found_among test is_found all_found found all_are_found is) in
+    subst (λ (x : Counter). IsBetween a b x) counter (may, parts.0, parts.1)
 
--- a counter is allowed by the first policy and denied by the second
-pub counter_between : (a b : Policy) (ds : List Designator) (c : Counter) → counter_of ds a b ≡ Some c
-    → (allows (flags_of a c.designator).0 c.found ≡ true) × (allows (flags_of b c.designator).0 c.found ≡ false)
+-- a counter may be found, is allowed by the first policy and denied by the second
+pub counter_between : (a b : Policy) (ds : List Designator) (c : Counter) → counter_of ds a b ≡ Some c → IsBetween a b c
 counter_between a b [] c is = cc
 counter_between a b (d ∷ ds) c is = by_first (first_beyond a b d) refl (λ rest. counter_between a b ds c rest)
   where
-    by_first : (r : Option Counter) → first_beyond a b d ≡ r
-        → (counter_of ds a b ≡ Some c → (allows (flags_of a c.designator).0 c.found ≡ true) ×
-        (allows (flags_of b c.designator).0 c.found ≡ false))
-        → (allows (flags_of a c.designator).0 c.found ≡ true) × (allows (flags_of b c.designator).0 c.found ≡ false)
+    by_first : (r : Option Counter) → first_beyond a b d ≡ r → (counter_of ds a b ≡ Some c → IsBetween a b c) → IsBetween a b c
     by_first None same later = later (ap (λ o. option_or o (counter_of ds a b)) (sym same) ∙ is)
     by_first (Some e) same later = of_first a b d (find (is_beyond (flags_of a d).0 (flags_of b d).0) all_found) c refl
         (same ∙ ap (λ o. option_or o (counter_of ds a b)) (sym same) ∙ is)

@@ -12,12 +12,12 @@ ghost use Rattle.rp_policy.specs.Reading.{designators, policy_of};
 ghost use Rattle.rp_policy.specs.Written.{policy_text};
 
 /// Where a comparison gives no counter, the second policy allows all that may be found of a designator and that the first
-/// allows. A counter is allowed by the first policy and denied by the second.
+/// allows. A counter may be found, is allowed by the first policy and denied by the second.
 pub fn a_counter_is_between_the_policies()
     ensures none { (a b : Policy) (d : Designator) (found : Option Found) → counter_of designators a b ≡ None → IsFound found
         → allows (flags_of a d).0 found ≡ true → allows (flags_of b d).0 found ≡ true }
     ensures some { (a b : Policy) (c : Counter) → counter_of designators a b ≡ Some c
-        → (allows (flags_of a c.designator).0 c.found ≡ true) × (allows (flags_of b c.designator).0 c.found ≡ false) }
+        → IsFound c.found × (allows (flags_of a c.designator).0 c.found ≡ true) × (allows (flags_of b c.designator).0 c.found ≡ false) }
 {}
 
 /// The canonical text of a policy whose flags are in full is read as the policy.

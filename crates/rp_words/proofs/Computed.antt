@@ -3,11 +3,13 @@ use Rattle.std.proofs.Common.{Some, None, ◌≡◌, refl, ℕ, List, [], ◌∷
 use Rattle.std.specs.Option.{option_map_or}
 use Rattle.std.specs.Prelude.{codes, Ok, Err}
 use Rattle.rp_gpt.specs.declared.table_fault.Empty.TheVariants.{Refuse, Allow}
+use Rattle.rp_types.specs.declared.arch.Arch.{Arch}
 use Rattle.rp_types.specs.declared.arch.Arch.TheVariants.{X86_64, Arm64}
 use Rattle.rp_words.specs.declared.fault.WordFault.TheVariants.{NoCommand, UnknownCommand, NotOption, UnknownOption, OtherCommand, Twice, BadValue, Missing, NoImage}
 use Rattle.rp_words.specs.declared.line.Line.{Line}
-use Rattle.rp_words.specs.declared.table.Command.TheVariants.{Show}
-use Rattle.rp_words.specs.declared.table.Opt.TheVariants.{Definitions, Json, SectorSize, Seed, Size}
+use Rattle.rp_words.specs.declared.table.Command.{Command}
+use Rattle.rp_words.specs.declared.table.Command.TheVariants.{Show, Dissect, Compare}
+use Rattle.rp_words.specs.declared.table.Opt.TheVariants.{Against, Definitions, Json, Policy, SectorSize, Seed, Size}
 use Rattle.rp_words.specs.Faults.{entry_called, first_fault, missing}
 use Rattle.rp_words.specs.Help.{built_text, command_text, offered_text, option_text}
 use Rattle.rp_words.specs.Entry.{entry_of}
@@ -21,12 +23,12 @@ use Rattle.std.specs.Prelude.{if◌then◌else◌}
 use Rattle.rp_types.specs.Guids.{guid_of}
 use Rattle.rp_values.specs.Numbers.{size_of}
 
--- the line of `show`, with JSON or not, for sectors of so many bytes
-abbrev show : Bool → ℕ → Line
-show json sector = record {
-  command = Show;
+-- the line of a command for an architecture, with JSON or not, for sectors of so many bytes
+abbrev line : Command → Arch → Bool → ℕ → Line
+line command arch json sector = record {
+  command = command;
   seed = record { 0 = replicate 16 0 };
-  arch = X86_64;
+  arch = arch;
   empty = Refuse;
   size = 0;
   json = json;
@@ -34,6 +36,9 @@ show json sector = record {
   factory_reset = false;
   number = 0;
 }
+
+abbrev show : Bool → ℕ → Line
+show json sector = line Show X86_64 json sector
 
 no_words : line_of [] ≡ Err NoCommand
 no_words = refl
@@ -136,6 +141,40 @@ no_size_by_default : size_of_words (codes "image" ∷ []) ≡ 0
 unfolding entry_called options size_of
 no_size_by_default = refl
 
+-- what the commands on policies want
+an_image_for_an_architecture : line_of (codes "dissect" ∷ codes "--json=short" ∷ codes "--arch=arm64" ∷ codes "image" ∷ [])
+    ≡ Ok (line Dissect Arm64 true 512)
+unfolding command_of commands first_fault missing entry_called options guid_of size_of
+an_image_for_an_architecture = refl
+
+two_policies : line_of (codes "compare" ∷ codes "--against=*" ∷ codes "--policy=" ∷ []) ≡ Ok (line Compare X86_64 false 512)
+unfolding command_of commands first_fault missing entry_called options guid_of size_of
+two_policies = refl
+
+without_a_policy : line_of (codes "policy" ∷ []) ≡ Err (Missing Policy)
+unfolding command_of commands first_fault missing entry_called options
+without_a_policy = refl
+
+without_a_second_policy : line_of (codes "compare" ∷ codes "--policy=-" ∷ []) ≡ Err (Missing Against)
+unfolding command_of commands first_fault missing entry_called options
+without_a_second_policy = refl
+
+no_image_of_a_policy : line_of (codes "policy" ∷ codes "--policy=-" ∷ codes "image" ∷ []) ≡ Err (NotOption 2)
+unfolding command_of commands first_fault missing entry_called options
+no_image_of_a_policy = refl
+
+no_policy_of_a_table : line_of (codes "show" ∷ codes "--policy=-" ∷ codes "image" ∷ []) ≡ Err (OtherCommand 1)
+unfolding command_of commands first_fault missing entry_called options
+no_policy_of_a_table = refl
+
+a_policy : text_in Policy (codes "--policy=root=verity" ∷ codes "image" ∷ []) ≡ codes "root=verity"
+unfolding entry_called entry_of options
+a_policy = refl
+
+a_policy_by_default : text_in Policy (codes "image" ∷ []) ≡ codes "*"
+unfolding entry_called entry_of options
+a_policy_by_default = refl
+
 -- what `--help` prints of a command, and of an option
 command_in_help : List ℕ → List ℕ
 command_in_help name = option_map_or command_text (first_of (λ (entry : CommandEntry). if bytes_eq entry.0 name then Some entry else None) commands) []
@@ -144,6 +183,11 @@ help_on_show : command_in_help (codes "show")
     ≡ codes "repart show prints the table of an image:\n\n    repart show\n        [--json=off|short]\n        [--sector-size=512|4096]\n        IMAGE\n\n"
 unfolding command_in_help commands command_text built_text options
 help_on_show = refl
+
+help_on_compare : command_in_help (codes "compare")
+    ≡ codes "repart compare tells whether a policy allows what another denies:\n\n    repart compare\n        --policy=POLICY\n        --against=POLICY\n\n"
+unfolding command_in_help commands command_text built_text options
+help_on_compare = refl
 
 help_on_a_command_that_is_not_built : command_in_help (codes "apply") ≡ []
 unfolding command_in_help commands command_text

@@ -1,5 +1,5 @@
 -- What a command line asks for, or the first thing that is wrong with its words (own).
-use Rattle.std.specs.Prelude.{ℕ, ◌-◌, List, [], ◌∷◌, Bool, not, ◌&&◌, if◌then◌else◌, codes, length, take, replicate, Option, Some, None, option_map, Result, Ok, Err, unwrap_or}
+use Rattle.std.specs.Prelude.{ℕ, ◌-◌, List, [], ◌∷◌, Bool, false, not, ◌&&◌, if◌then◌else◌, codes, length, take, replicate, Option, Some, None, option_map, Result, Ok, Err, unwrap_or}
 use Rattle.std.specs.Option.{option_map_or}
 use Rattle.std.specs.Str.{bytes_eq}
 use Rattle.rp_gpt.specs.declared.table_fault.Empty.{Empty}
@@ -26,6 +26,11 @@ named name entry = if bytes_eq entry.0 name && entry.1.built then Some entry.1 e
 -- the command of a name
 unfoldable pub command_of : List ℕ → Option CommandRow
 command_of name = first_of (named name) commands
+
+-- words begin with a command that has an image behind its options
+abbrev pub has_image : List (List ℕ) → Bool
+has_image [] = false
+has_image (command ∷ words) = option_map_or (λ row. row.image) (command_of command) false
 
 -- the value of an option: the one that the words give, or the one that stands where none is given
 abbrev pub value_or : List ℕ → List (List ℕ) → List ℕ

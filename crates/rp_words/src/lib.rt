@@ -13,6 +13,6 @@ mod words;
 pub use fault::WordFault;
 pub use help::help_text;
 pub use hint::{Hint, hint_of};
-pub use line::{Line, read_line, text_of};
+pub use line::{Line, has_image, read_line, text_of};
 pub use table::{Command, Opt};
 pub use values::read_paths;

@@ -1,7 +1,7 @@
 //! What a command line asks for, read without memory.
 
 ghost use Rattle.std.specs.Prelude.{◌≡◌, [], IfOk, map, string_bytes};
-ghost use Rattle.rp_words.specs.Line.{arch_in as arch_in_words, command_of as command_of_name, empty_in as empty_in_words, is_set as is_set_in, line_by as line_by_words, line_of, line_with as line_with_words, named as named_entry, options_in as options_in_words, sector_in as sector_in_words, size_of_words as size_in_words, text_in, value_or as value_or_default};
+ghost use Rattle.rp_words.specs.Line.{arch_in as arch_in_words, command_of as command_of_name, empty_in as empty_in_words, has_image as words_have_image, is_set as is_set_in, line_by as line_by_words, line_of, line_with as line_with_words, named as named_entry, options_in as options_in_words, sector_in as sector_in_words, size_of_words as size_in_words, text_in, value_or as value_or_default};
 ghost use Rattle.rp_base.specs.Geometry.{IsSector};
 ghost use Rattle.std.specs.Option.{option_map_or};
 ghost use Rattle.rp_words.specs.Faults.{entry_called};
@@ -41,6 +41,19 @@ pub fn text_of(option: Opt, words: &[String]) -> &str
     ensures { result.now ≡ text_in option (map string_bytes words.now) }
 {
     value_or(name(option), words)
+}
+
+/// Whether words begin with a command that is built and has an image behind its options.
+pub fn has_image(words: &[String]) -> bool
+    ensures { result ≡ words_have_image (map string_bytes words.now) }
+{
+    match words {
+        [] => false,
+        [command, ..] => match command_of(command.as_str()) {
+            Some(row) => row.image,
+            None => false,
+        },
+    }
 }
 
 /// The line of words, which don't hold the program's name, or the first thing that is wrong with them.

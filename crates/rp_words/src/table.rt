@@ -83,13 +83,13 @@ pub(crate) static COMMANDS: [CommandEntry; 8] = [
         "changes the image as plan prints it"),
     ("check", CommandRow { command: Command::Check, built: false, image: true },
         "tells whether the image is as apply leaves it"),
-    ("dissect", CommandRow { command: Command::Dissect, built: false, image: true },
-        "prints the partitions that are found by their types"),
-    ("policy", CommandRow { command: Command::Policy, built: false, image: false },
-        "prints an image policy in its shortest form"),
+    ("dissect", CommandRow { command: Command::Dissect, built: true, image: true },
+        "prints which partitions an image policy lets be used"),
+    ("policy", CommandRow { command: Command::Policy, built: true, image: false },
+        "prints an image policy in its canonical form"),
     ("make", CommandRow { command: Command::Make, built: false, image: true },
         "makes a large image from a number, and checks it"),
-    ("compare", CommandRow { command: Command::Compare, built: false, image: false },
+    ("compare", CommandRow { command: Command::Compare, built: true, image: false },
         "tells whether a policy allows what another denies"),
 ];
 

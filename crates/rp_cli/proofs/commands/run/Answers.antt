@@ -1,4 +1,5 @@
 use Rattle.std.proofs.Common.{inl, inr, map, string_bytes, sym}
+use Rattle.rp_cli.proofs.Policies.{compare_causes, compare_files, dissect_causes, dissect_files, policy_causes, policy_files}
 use Rattle.rp_cli.proofs.Promised.{plan_causes, plan_files}
 use Rattle.rp_cli.specs.Asked.{request_of}
 use Rattle.rp_outcome.specs.Device.{device}
@@ -7,7 +8,7 @@ use Rattle.rp_outcome.specs.Store.{store}
 use Rattle.rp_words.proofs.Built.{asks_for}
 use Rattle.rp_words.specs.Line.{text_in}
 use Rattle.rp_words.specs.Values.{paths_of}
-use Rattle.rp_words.specs.declared.table.Opt.TheVariants.{Definitions}
+use Rattle.rp_words.specs.declared.table.Opt.TheVariants.{Against, Definitions, Policy}
 use Rattle.rp_cli.proofs.commands.run.Goals as goal
 
 -- what holds of every command, for `plan`
@@ -37,10 +38,74 @@ returns-in-Plan-clause-files g c =
     (output g.K.Sink.told g.K.Sink.faults c.run_plan.new.out)
     c.run_plan.result c.run_plan.ensures
 
+-- the same for the commands on policies
+pub returns-in-Dissect-clause-causes : goal.returns-in-Dissect-clause-causes
+returns-in-Dissect-clause-causes g c =
+    dissect_causes (text_in Policy (map string_bytes c.args.words.now)) c.in-Ok.line.arch c.in-Ok.line.sector c.in-Ok.line.json
+    (device g.D.Disk.first g.D.Disk.calls g.D.Disk.faults g.D.Disk.strays c.args.disk.now)
+    (device g.D.Disk.first g.D.Disk.calls g.D.Disk.faults g.D.Disk.strays c.run_dissect.new.disk)
+    (output g.K.Sink.told g.K.Sink.faults c.args.out.now)
+    (output g.K.Sink.told g.K.Sink.faults c.run_dissect.new.out)
+    c.run_dissect.result
+    c.run_dissect.ensures
+
+pub returns-in-Dissect-clause-files : goal.returns-in-Dissect-clause-files
+returns-in-Dissect-clause-files g c =
+    dissect_files (text_in Policy (map string_bytes c.args.words.now)) c.in-Ok.line.arch c.in-Ok.line.sector c.in-Ok.line.json
+    (device g.D.Disk.first g.D.Disk.calls g.D.Disk.faults g.D.Disk.strays c.args.disk.now)
+    (device g.D.Disk.first g.D.Disk.calls g.D.Disk.faults g.D.Disk.strays c.run_dissect.new.disk)
+    (output g.K.Sink.told g.K.Sink.faults c.args.out.now)
+    (output g.K.Sink.told g.K.Sink.faults c.run_dissect.new.out)
+    c.run_dissect.result
+    (store g.F.Folders.told g.F.Folders.faults g.F.Folders.strays c.args.folders.now)
+    (store g.S.Sources.told g.S.Sources.faults g.S.Sources.strays c.args.sources.now)
+    c.run_dissect.ensures
+
+pub returns-in-Policy-clause-causes : goal.returns-in-Policy-clause-causes
+returns-in-Policy-clause-causes g c =
+    policy_causes (text_in Policy (map string_bytes c.args.words.now))
+    (output g.K.Sink.told g.K.Sink.faults c.args.out.now)
+    (output g.K.Sink.told g.K.Sink.faults c.run_policy.new.out)
+    c.run_policy.result
+    (device g.D.Disk.first g.D.Disk.calls g.D.Disk.faults g.D.Disk.strays c.args.disk.now)
+    c.run_policy.ensures
+
+pub returns-in-Policy-clause-files : goal.returns-in-Policy-clause-files
+returns-in-Policy-clause-files g c =
+    policy_files (text_in Policy (map string_bytes c.args.words.now))
+    (output g.K.Sink.told g.K.Sink.faults c.args.out.now)
+    (output g.K.Sink.told g.K.Sink.faults c.run_policy.new.out)
+    c.run_policy.result
+    (store g.F.Folders.told g.F.Folders.faults g.F.Folders.strays c.args.folders.now)
+    (store g.S.Sources.told g.S.Sources.faults g.S.Sources.strays c.args.sources.now)
+    c.run_policy.ensures
+
+pub returns-in-Compare-clause-causes : goal.returns-in-Compare-clause-causes
+returns-in-Compare-clause-causes g c =
+    compare_causes (text_in Policy (map string_bytes c.args.words.now)) (text_in Against (map string_bytes c.args.words.now))
+    (output g.K.Sink.told g.K.Sink.faults c.args.out.now)
+    (output g.K.Sink.told g.K.Sink.faults c.run_compare.new.out)
+    c.run_compare.result
+    (device g.D.Disk.first g.D.Disk.calls g.D.Disk.faults g.D.Disk.strays c.args.disk.now)
+    c.run_compare.ensures
+
+pub returns-in-Compare-clause-files : goal.returns-in-Compare-clause-files
+returns-in-Compare-clause-files g c =
+    compare_files (text_in Policy (map string_bytes c.args.words.now)) (text_in Against (map string_bytes c.args.words.now))
+    (output g.K.Sink.told g.K.Sink.faults c.args.out.now)
+    (output g.K.Sink.told g.K.Sink.faults c.run_compare.new.out)
+    c.run_compare.result
+    (store g.F.Folders.told g.F.Folders.faults g.F.Folders.strays c.args.folders.now)
+    (store g.S.Sources.told g.S.Sources.faults g.S.Sources.strays c.args.sources.now)
+    c.run_compare.ensures
+
 -- no line asks for another command
 pub returns-in_default : goal.returns-in_default
 returns-in_default g c = elim (asks_for (map string_bytes c.args.words.now) c.in-Ok.line (sym c.in-Ok.ensures.line)) [
   | inl show ↦ absurd (c.in_default.not-Show show)
   | inr (inl plan) ↦ absurd (c.in_default.not-Plan plan)
-  | inr (inr none) ↦ absurd none
+  | inr (inr (inl dissect)) ↦ absurd (c.in_default.not-Dissect dissect)
+  | inr (inr (inr (inl policy))) ↦ absurd (c.in_default.not-Policy policy)
+  | inr (inr (inr (inr (inl compare)))) ↦ absurd (c.in_default.not-Compare compare)
+  | inr (inr (inr (inr (inr none)))) ↦ absurd none
 ]
