@@ -51,7 +51,7 @@ module _ (P : Step → Type 0) where
     copy Primary = three e.sync ClosePrimary ArrayPrimary HeaderPrimary e.primary
     copy Backup = three e.sync CloseBackup ArrayBackup HeaderBackup e.backup
 
-    copies : (order : List Which) → All P (synced (flat_map copy_phases order))
+    pub copies : (order : List Which) → All P (synced (flat_map copy_phases order))
     copies [] = All-nil P
     copies (which ∷ order) =
         subst (λ (l : List Step). All P l) (sym (synced-append (copy_phases which) (flat_map copy_phases order)))
@@ -64,11 +64,11 @@ module _ (P : Step → Type 0) where
         All-append P _ _ (each_of Q (λ noted. payload_steps noted noted.1.role) e.payload (new_rows plan) news)
         (each_of Q (λ noted. tree_steps plan.goal.rows noted.0 noted.1.role) e.tree (new_rows plan) news)
 
-    grown : (seen : Seen) → All P (synced (growth plan seen))
+    pub grown : (seen : Seen) → All P (synced (growth plan seen))
     unfolding growth
     grown seen = single e.sync (Grow (512 * plan.target)) e.grow (ltb seen.sectors plan.target)
 
-    mbr : (seen : Seen) → All P (synced (mbr_phases plan seen))
+    pub mbr : (seen : Seen) → All P (synced (mbr_phases plan seen))
     unfolding mbr_phases
     mbr seen = single e.sync Mbr e.mbr (writes_mbr plan seen seen.mbr)
 

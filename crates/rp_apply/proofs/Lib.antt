@@ -1,3 +1,14 @@
+pub mod Anyhow
+pub mod Can
+pub mod Committed
+pub mod Ending
 pub mod Every
-pub mod Named
+pub mod Inside
+pub mod Judging
+pub mod Laid
+pub mod Lying
 pub mod Made
+pub mod Named
+pub mod Partners
+pub mod Parts
+pub mod Roots

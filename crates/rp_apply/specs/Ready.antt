@@ -2,10 +2,12 @@
 use Rattle.std.specs.Prelude.{ℕ, ◌≡◌, ◌≤◌, ◌<◌, List, All, length, ⊤}
 use Rattle.rp_base.specs.Geometry.{least_sectors}
 use Rattle.rp_base.specs.Plan.{IsWellFormed}
+use Rattle.rp_base.specs.Table.{TableFits}
 use Rattle.rp_base.specs.declared.plan.Plan.{Plan}
 use Rattle.rp_base.specs.declared.seen.Seen.{Seen}
 use Rattle.rp_defs.specs.declared.definition.Definition.{Definition}
 use Rattle.rp_stops.specs.Order.{target_sectors}
+use Rattle.rp_steps.specs.Contents.{NotesFit}
 use Rattle.rp_steps.specs.Steps.{steps}
 use Rattle.rp_steps.specs.declared.step.Step.{Step}
 use Rattle.rp_steps.specs.declared.step.Step.TheVariants.{Copy}
@@ -18,11 +20,13 @@ abbrev pub NamesPath : List (List ℕ) → Step → Type 0
 NamesPath paths (Copy file at len) = file < length paths
 NamesPath paths other = ⊤
 
--- its plan is well formed for what was seen, its steps are those of the plan, each source has its path, all blocks are lent,
+-- its plan is well formed for what was seen, with numbers within their fields, its steps are those of the plan, each source has its path, all blocks are lent,
 -- and they hold both copies of the goal
 pub record IsReady (ready : Ready) : Type 0 where
   pub well_formed : IsWellFormed ready.seen ready.plan
   pub room : least_sectors ready.plan.goal.sector ready.plan.goal.entries ≤ target_sectors ready.plan
+  pub table_fits : TableFits ready.plan.goal
+  pub notes_fit : NotesFit ready.plan
   pub steps : ready.steps ≡ steps ready.plan ready.seen
   pub paths : All (NamesPath ready.paths) ready.steps
   pub leased : IsLeased ready.blocks

@@ -1,10 +1,13 @@
 //! A plan is carried out: first all memory is taken, then the image is changed.
 #![tactic(auto)]
 
+mod commit;
 mod paths;
 mod ready;
 
+pub use commit::{Done, commit};
 pub use ready::{Ready, prepare};
+pub use rp_step::ApplyFault;
 
 #[cfg(test)]
 mod tests;

@@ -1,5 +1,5 @@
-ghost use Rattle.std.specs.Prelude.{◌≡◌, ◌<◌, IfOk, length, map};
-ghost use Rattle.rp_apply.specs.Sourced.{path_at, path_in, paths_of as paths_in};
+ghost use Rattle.std.specs.Prelude.{◌≡◌, IfOk};
+ghost use Rattle.rp_apply.specs.Sourced.{path_in, paths_of as paths_in};
 
 use rp_base::{List, Memory, Text};
 use rp_defs::Definition;
@@ -24,12 +24,4 @@ fn path_of(alloc: Global, definition: &Definition) -> Result<Text, Memory>
         Some(path) => Text::from_str(alloc, path.as_str()),
         None => Ok(Text::new(alloc)),
     }
-}
-
-// The path of this number.
-pub fn path(paths: &List<Text>, file: u16) -> &str
-    requires { file < length paths.now }
-    ensures { result.now ≡ path_at paths.now file }
-{
-    paths.as_slice()[usize::from(file)].as_str()
 }

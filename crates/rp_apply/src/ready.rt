@@ -2,6 +2,8 @@ ghost use Rattle.std.specs.Prelude.{◌≡◌, ◌≤◌, All, IfOk};
 ghost use Rattle.rp_base.specs.Geometry.{least_sectors};
 ghost use Rattle.rp_base.specs.Plan.{IsWellFormed, noted_of};
 ghost use Rattle.rp_stops.specs.Order.{target_sectors as target_sectors_of};
+ghost use Rattle.rp_base.specs.Table.{TableFits};
+ghost use Rattle.rp_steps.specs.Contents.{NotesFit};
 ghost use Rattle.rp_steps.specs.Writes.{writes as writes_in};
 ghost use Rattle.rp_apply.specs.Ready.{IsReady, IsReadyFor};
 ghost use Rattle.rp_region.specs.Region.{HoldsCopies};
@@ -76,9 +78,11 @@ pub(crate) fn target_sectors(plan: &Plan) -> u64
     plan.target / sector_units(plan.goal.sector)
 }
 
-// An equal plan.
+// An equal plan. As each value of the type, it has numbers within their fields.
 fn copy_of_plan(alloc: Global, plan: &Plan) -> Result<Plan, Memory>
-    ensures { IfOk result (λ copy. copy ≡ plan.now) }
+    ensures same { IfOk result (λ copy. copy ≡ plan.now) }
+    ensures table_fits { TableFits plan.now.goal }
+    ensures notes_fit { NotesFit plan.now }
 {
     Ok(Plan {
         target: plan.target,

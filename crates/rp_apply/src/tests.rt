@@ -1,7 +1,9 @@
 ghost use Rattle.std.specs.Prelude.{◌≡◌, [], replicate};
 
-use crate::prepare;
+use crate::{Done, commit, prepare};
 use rp_base::{Guid, List, Mbr, Origin, Plan, Seen, Table};
+use rp_disk::MemDisk;
+use rp_io::MemSources;
 use std::alloc::Global;
 use std::test::Fail;
 
@@ -42,5 +44,12 @@ fn a_new_table(rt: HostRuntime) -> Result<(), Fail> {
     let ready = prepare(alloc, &plan, &seen, &[])?;
     assert_eq!(rt; ready.writes(), 7);
     assert_eq!(rt; ready.region().free(), 0);
+    let bytes = List::from_vec(vec![in alloc; 0u8; 67_108_864]?);
+    let mut disk = MemDisk::new(alloc, bytes, List::new(alloc));
+    let mut sources = MemSources::new(List::new(alloc), List::new(alloc));
+    let done = commit(ready, &mut disk, &mut sources);
+    assert!(rt; done == Ok(Done { writes: 7 }));
+    assert_eq!(rt; disk.writes(), 7);
+    assert!(rt; disk.bytes().get(512..520) == Some(b"EFI PART".as_slice()));
     Ok(())
 }

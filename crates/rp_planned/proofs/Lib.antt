@@ -1,3 +1,3 @@
 mod Answered
 mod Asked
-mod Target
+pub mod Target

@@ -18,7 +18,8 @@ primary_out region run out is = rw is record { some = omega arith; out = ap (λ 
 pub backup_out : (region : Region) (run : Run) → region.out ≡ all_out → run ≡ backup_run → IsOut region run
 backup_out region run out is = rw is record { some = omega arith; out = ap (λ (o : List ℕ). slice_index o 33) out }
 
-length-bytes_of : (region : Region) (run : Run) → IsRegion region → IsOut region run → length (bytes_of region run) ≡ 4096 * run.blocks
+-- how many bytes a run has
+pub length-bytes_of : (region : Region) (run : Run) → IsRegion region → IsOut region run → length (bytes_of region run) ≡ 4096 * run.blocks
 length-bytes_of region run is out =
     let within = out_within region run is out in
     let size = length-take (4096 * (run.first + run.blocks) - 4096 * run.first) (drop (4096 * run.first) region.bytes) in

@@ -39,7 +39,7 @@ use Rattle.rp_stops.specs.Order as stops
 
 module _ (plan : Plan) (sources : Sources) where
   -- a sync behind each phase is one behind each block of calls
-  calls-synced : (phases : List (List Step)) → calls_of_steps plan sources (synced phases) ≡ flat (map (calls_of_steps plan sources) phases)
+  pub calls-synced : (phases : List (List Step)) → calls_of_steps plan sources (synced phases) ≡ flat (map (calls_of_steps plan sources) phases)
   unfolding calls_of
   calls-synced [] = refl
   calls-synced (phase ∷ phases) =
@@ -48,12 +48,12 @@ module _ (plan : Plan) (sources : Sources) where
       ∙ append_assoc (calls_of_steps plan sources phase) (SyncCall ∷ []) (calls_of_steps plan sources (synced phases))
       ∙ ap (λ (l : List Call). calls_of_steps plan sources phase ++ (SyncCall ∷ l)) (calls-synced phases)
 
-  growth_as : (len : ℕ) (b : Bool) → map (calls_of_steps plan sources) (cond b ((Grow len ∷ []) ∷ []) []) ≡ cond b ((SetLen len ∷ []) ∷ []) []
+  pub growth_as : (len : ℕ) (b : Bool) → map (calls_of_steps plan sources) (cond b ((Grow len ∷ []) ∷ []) []) ≡ cond b ((SetLen len ∷ []) ∷ []) []
   unfolding calls_of
   growth_as len true = refl
   growth_as len false = refl
 
-  copies_as : (order : List Which) → map (calls_of_steps plan sources) (flat_map copy_phases order) ≡ copies plan order
+  pub copies_as : (order : List Which) → map (calls_of_steps plan sources) (flat_map copy_phases order) ≡ copies plan order
   unfolding calls_of
   copies_as [] = refl
   copies_as (Primary ∷ order) = ap (λ (l : List (List Call)). copy_blocks plan Primary ++ l) (copies_as order)

@@ -1,0 +1,107 @@
+ghost use Rattle.std.specs.Prelude.{◌≡◌, ◌*◌, All, IfOk, IfSome, OnOk, length};
+ghost use Rattle.rp_disk.specs.History.{shown};
+ghost use Rattle.rp_disk.specs.Made.{history_told};
+ghost use Rattle.rp_step.specs.Causes.{HasDiskCause, HasSourceCause};
+ghost use Rattle.rp_step.specs.Found.{Found, HasFile, outside_of};
+ghost use Rattle.rp_step.specs.Run.{AllLieIn, MakesSteps};
+ghost use Rattle.rp_steps.specs.Writes.{writes as writes_in};
+ghost use Rattle.rp_apply.specs.Commits.{AnyMomentIsSafe, ChangesAtRoots, EndsFinal, IsComplete, MakesPlanned, TellsShown};
+ghost use Rattle.rp_apply.specs.Ready.{IsReady};
+ghost use Rattle.rp_region.specs.Region.{IsLeased};
+
+use crate::Ready;
+use rp_disk::Disk;
+use rp_io::Sources;
+use rp_step::{ApplyFault, make_steps};
+
+/// A plan was carried out, in so many writes.
+#[derive(Clone, Copy, Debug, PartialEq, Eq)]
+pub struct Done {
+    pub writes: u64,
+}
+
+/// Carries out a plan: makes the calls of its steps in their order, up to the first fault. It takes no memory.
+pub fn commit<D: Disk, S: Sources>(
+    ready: Ready,
+    disk: &mut D,
+    sources: &mut S,
+) -> Result<Done, ApplyFault>
+    requires { IsReady ready }
+    ensures first { D.first disk.new ≡ D.first disk.old }
+    ensures told { S.told sources.new ≡ S.told sources.old }
+
+    // Over every disk and all sources: the calls are those of the steps, whatever is copied.
+    ensures made { (founds : List Found) × MakesSteps ready.plan (outside_of (S.told sources.old) ready.paths (D.first disk.old)) ready.steps founds
+        (D.calls disk.old) (D.calls disk.new) result }
+    ensures writes { IfOk result (λ done. done.writes ≡ writes_in ready.steps) }
+    ensures disk_cause { HasDiskCause (D.faults disk.old) (D.faults disk.new) result }
+    ensures source_cause { HasSourceCause (S.faults sources.old) (S.faults sources.new) result }
+    // No call goes past the end of a disk as long as it was seen, nor of a file that has the bytes.
+    ensures disk_strays { IfSome (history_told (D.first disk.old) (D.calls disk.old)) (λ h. length (shown h) ≡ 512 * ready.seen.sectors → D.strays disk.new ≡ D.strays disk.old) }
+    ensures source_strays { IfSome (S.told sources.old) (λ files. All (HasFile files ready.paths) ready.steps → S.strays sources.new ≡ S.strays sources.old) }
+
+    // Where the disk tells, whatever the sources do.
+    ensures copied { TellsShown ready (D.first disk.old) (D.calls disk.old) (D.calls disk.new) result }
+
+    // Where both tell: they are the calls of the plan, and a source has changed exactly where a tree's root isn't the planned one.
+    ensures planned { IfSome (S.told sources.old) (λ files. MakesPlanned ready files (D.first disk.old) (D.calls disk.old) (D.calls disk.new) result) }
+    ensures changed { IfSome (S.told sources.old) (λ files. ChangesAtRoots ready files (D.first disk.old) (D.calls disk.old) result) }
+    ensures complete { IfSome (S.told sources.old) (λ files. IsComplete ready files (D.first disk.old) (D.calls disk.old) (D.faults disk.old) (D.faults disk.new)
+        (S.faults sources.old) (S.faults sources.new) result) }
+    ensures ended { IfSome (S.told sources.old) (λ files. OnOk result (EndsFinal ready files (D.first disk.old) (D.calls disk.old) (D.calls disk.new))) }
+
+    // Whatever the sources do.
+    ensures any_moment { AnyMomentIsSafe ready (S.told sources.old) (D.first disk.old) (D.calls disk.old) (D.calls disk.new) }
+{
+    carry_out(ready, disk, sources)
+}
+
+// The calls of `commit`.
+fn carry_out<D: Disk, S: Sources>(
+    ready: Ready,
+    disk: &mut D,
+    sources: &mut S,
+) -> Result<Done, ApplyFault>
+    requires { IsReady ready }
+    ensures first { D.first disk.new ≡ D.first disk.old }
+    ensures told { S.told sources.new ≡ S.told sources.old }
+    ensures made { (founds : List Found) × MakesSteps ready.plan (outside_of (S.told sources.old) ready.paths (D.first disk.old)) ready.steps founds
+        (D.calls disk.old) (D.calls disk.new) result }
+    ensures writes { IfOk result (λ done. done.writes ≡ writes_in ready.steps) }
+    ensures disk_cause { HasDiskCause (D.faults disk.old) (D.faults disk.new) result }
+    ensures source_cause { HasSourceCause (S.faults sources.old) (S.faults sources.new) result }
+    ensures disk_strays { IfSome (history_told (D.first disk.old) (D.calls disk.old)) (λ h. AllLieIn ready.plan (length (shown h)) ready.steps → D.strays disk.new ≡ D.strays disk.old) }
+    ensures source_strays { IfSome (S.told sources.old) (λ files. All (HasFile files ready.paths) ready.steps → S.strays sources.new ≡ S.strays sources.old) }
+{
+    let mut ready = ready;
+    let writes = ready.writes();
+    make_all(&mut ready, disk, sources)?;
+    Ok(Done { writes })
+}
+
+// Makes the calls of all steps.
+fn make_all<D: Disk, S: Sources>(
+    ready: &mut Ready,
+    disk: &mut D,
+    sources: &mut S,
+) -> Result<(), ApplyFault>
+    requires { IsReady ready.old }
+    ensures leased { IsLeased ready.new.blocks }
+    ensures first { D.first disk.new ≡ D.first disk.old }
+    ensures told { S.told sources.new ≡ S.told sources.old }
+    ensures made { (founds : List Found) × MakesSteps ready.old.plan (outside_of (S.told sources.old) ready.old.paths (D.first disk.old)) ready.old.steps founds
+        (D.calls disk.old) (D.calls disk.new) result }
+    ensures disk_cause { HasDiskCause (D.faults disk.old) (D.faults disk.new) result }
+    ensures source_cause { HasSourceCause (S.faults sources.old) (S.faults sources.new) result }
+    ensures disk_strays { IfSome (history_told (D.first disk.old) (D.calls disk.old)) (λ h. AllLieIn ready.old.plan (length (shown h)) ready.old.steps → D.strays disk.new ≡ D.strays disk.old) }
+    ensures source_strays { IfSome (S.told sources.old) (λ files. All (HasFile files ready.old.paths) ready.old.steps → S.strays sources.new ≡ S.strays sources.old) }
+{
+    make_steps(
+        disk,
+        sources,
+        &ready.plan,
+        &ready.paths,
+        &mut ready.blocks,
+        ready.steps.as_slice(),
+    )
+}

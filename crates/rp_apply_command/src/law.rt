@@ -1,0 +1,52 @@
+//! What `apply` promises of an image, by its exit status.
+
+ghost use Rattle.std.specs.Prelude.{◌≡◌, ◌≤◌, ◌%◌, ◌^◌, ◌*◌, ℕ, Bool, List, [], ◌∷◌, Some, Ok, IsErrAnd, length};
+ghost use Rattle.rp_base.specs.Geometry.{IsSector};
+ghost use Rattle.rp_defs.specs.declared.definition.Definitions.{Definitions};
+ghost use Rattle.rp_disk.specs.History.{shown};
+ghost use Rattle.rp_disk.specs.Made.{history_of};
+ghost use Rattle.rp_disk.specs.Runs.{MadeFirst};
+ghost use Rattle.rp_disk.specs.declared.call.Call.{Call};
+ghost use Rattle.rp_idle.specs.Idle.{IsIdle};
+ghost use Rattle.rp_io.specs.Files.{Tree};
+ghost use Rattle.rp_io.specs.declared.stored.Stored.{Stored};
+ghost use Rattle.rp_outcome.specs.Device.{Device};
+ghost use Rattle.rp_outcome.specs.Output.{Output, Prints};
+ghost use Rattle.rp_outcome.specs.Refusals.{line_of};
+ghost use Rattle.rp_outcome.specs.Store.{Store};
+ghost use Rattle.rp_plan_command.specs.Statuses.{IsRefused, WhereTold, told_plan};
+ghost use Rattle.rp_planned.specs.declared.request.Request.{Request as Asked};
+ghost use Rattle.rp_reading.specs.Reading.{definitions_in};
+ghost use Rattle.rp_apply_command.specs.Applies.{Applies};
+ghost use Rattle.rp_apply_command.specs.Ends.{Ends};
+
+/// What becomes of the image at each status, and what a stop at any moment of the run leaves.
+pub fn apply_ends()
+    ensures { (request : Asked) (json : Bool) (dirs : List (List ℕ)) (folders read : Store Tree) (disk later : Device)
+        (sources drained : Store (List Stored)) (out after : Output) (status : ℕ)
+        → IsSector request.sector → request.size % 4096 ≡ 0 → request.size ≤ 2 ^ 44
+        → Applies request json dirs folders read disk later sources drained out after status
+        → Ends request json dirs folders disk later sources out after status }
+{}
+
+/// A second run: on an idle image that isn't to grow, where disk and folders tell, no call is made but the sync, at every status.
+pub fn apply_on_an_idle_image()
+    ensures { (request : Asked) (json : Bool) (dirs : List (List ℕ)) (folders read : Store Tree) (disk later : Device)
+        (sources drained : Store (List Stored)) (out after : Output) (status : ℕ)
+        → IsSector request.sector → request.size % 4096 ≡ 0 → request.size ≤ 2 ^ 44
+        → Applies request json dirs folders read disk later sources drained out after status
+        → (bytes : List ℕ) (tree : Tree) (definitions : Definitions) → disk.first ≡ Some bytes → folders.told ≡ Some tree
+        → definitions_in request.arch tree dirs ≡ Ok definitions
+        → IsIdle request.sector (shown (history_of bytes disk.calls)) definitions.list request.seed
+        → request.size ≤ length (shown (history_of bytes disk.calls)) → MadeFirst disk.calls (Call.Sync ∷ []) later.calls }
+{}
+
+/// What is refused, and how: at 3, 4 and 5, where folders, disk and sources tell, the first refusal of what they tell has that
+/// status, and its line was printed. It is that of `plan`.
+pub fn apply_refuses_as_plan()
+    ensures { (request : Asked) (json : Bool) (dirs : List (List ℕ)) (folders read : Store Tree) (disk later : Device)
+        (sources drained : Store (List Stored)) (out after : Output) (status : ℕ)
+        → Applies request json dirs folders read disk later sources drained out after status → IsRefused status
+        → WhereTold folders disk sources (λ tree image files. IsErrAnd (told_plan request dirs tree image files)
+        (λ refusal. (refusal.status ≡ status) × Prints out after (line_of refusal))) }
+{}

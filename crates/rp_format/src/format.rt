@@ -1,0 +1,118 @@
+//! Writing a tree block by block.
+
+ghost use Rattle.std.specs.Prelude.{◌≡◌, ◌+◌, ◌*◌, ◌<◌, ◌≤◌, ◌++◌, ℕ, List, IfSome, IfOk, OnOk, OnErr, length};
+ghost use Rattle.rp_base.specs.Faults.{HasCause};
+ghost use Rattle.rp_base.specs.Trees.{levels};
+ghost use Rattle.rp_disk.specs.History.{shown};
+ghost use Rattle.rp_disk.specs.Made.{dones, history_told};
+ghost use Rattle.rp_disk.specs.Runs.{MadeFirst};
+ghost use Rattle.rp_verity.specs.Builder.{HasTaken};
+ghost use Rattle.rp_verity.specs.Tree.{root_hash};
+ghost use Rattle.rp_format.specs.Puts.{writes_of};
+ghost use Rattle.rp_format.specs.Taking.{IsAt, TakesNext, WritesAll, left_puts};
+ghost use Rattle.rp_format.specs.Waiting.{IsEmpty};
+ghost use Rattle.rp_format.specs.Written.{IsTreePlan, LieIn, WritesTree, data_end};
+
+use crate::TreePlan;
+use crate::waiting::Waiting;
+use rp_base::Failed;
+use rp_disk::Disk;
+use rp_verity::{BLOCK, Builder, write_superblock};
+
+/// Reads the data blocks, writes each hash block behind the superblock's block as it becomes full, and then the
+/// superblock, if the root hash is the planned one; the answer is a root hash that is another. The room has a block of
+/// 4,096 bytes for each level and one more. It takes no memory.
+pub fn write_tree<D: Disk>(
+    disk: &mut D,
+    tree: &TreePlan,
+    room: &mut [u8],
+) -> Result<Option<[u8; 32]>, Failed>
+    requires plan { IsTreePlan tree.now }
+    requires room { 4096 * (levels tree.now.blocks + 1) ≤ length room.old }
+    ensures first { D.first disk.new ≡ D.first disk.old }
+    ensures written { WritesTree tree.now (D.first disk.old) (D.calls disk.old) (D.calls disk.new) result }
+    ensures range { IfSome (history_told (D.first disk.old) (D.calls disk.old)) (λ h. OnOk result (data_end tree.now ≤ length (shown h))) }
+    ensures strays { IfSome (history_told (D.first disk.old) (D.calls disk.old)) (λ h. LieIn tree.now (length (shown h)) → D.strays disk.new ≡ D.strays disk.old) }
+    ensures cause { HasCause (D.faults disk.old) (D.faults disk.new) result }
+{
+    let root = write_hashes(disk, tree, room)?;
+    if root != tree.root {
+        return Ok(Some(root));
+    }
+    let (block, _) = room.split_at_mut(BLOCK);
+    write_superblock(tree.uuid, tree.blocks, &tree.salt, block);
+    disk.write(tree.hash_at, block)?;
+    Ok(None)
+}
+
+// Reads the data blocks and writes the hash blocks. The answer is the root hash.
+fn write_hashes<D: Disk>(disk: &mut D, tree: &TreePlan, room: &mut [u8]) -> Result<[u8; 32], Failed>
+    requires plan { IsTreePlan tree.now }
+    requires room { 4096 * (levels tree.now.blocks + 1) ≤ length room.old }
+    ensures first { D.first disk.new ≡ D.first disk.old }
+    ensures written { WritesAll tree.now (D.first disk.old) (D.calls disk.old) (D.calls disk.new) result }
+    ensures range { IfSome (history_told (D.first disk.old) (D.calls disk.old)) (λ h. OnOk result (data_end tree.now ≤ length (shown h))) }
+    ensures strays { IfSome (history_told (D.first disk.old) (D.calls disk.old)) (λ h. LieIn tree.now (length (shown h)) → D.strays disk.new ≡ D.strays disk.old) }
+    ensures cause { HasCause (D.faults disk.old) (D.faults disk.new) result }
+{
+    let mut waiting = Waiting::new();
+    let mut builder = Builder::new(tree.blocks, &tree.salt, room);
+    for k in 0..tree.blocks {
+        take_block(disk, tree, k, &mut builder, &mut waiting)?;
+    }
+    finish(disk, tree, builder, &mut waiting)
+}
+
+// Reads the data block of this number, and writes the hash blocks that are full with it.
+fn take_block<D: Disk>(
+    disk: &mut D,
+    tree: &TreePlan,
+    k: u64,
+    builder: &mut Builder<'_>,
+    waiting: &mut Waiting,
+) -> Result<(), Failed>
+    requires plan { IsTreePlan tree.now }
+    requires more { k < tree.now.blocks }
+    requires builder { IsAt tree.now k builder.old }
+    requires taken { (taken : List (List ℕ)) × HasTaken builder.old tree.now.salt taken }
+    requires waiting { IsEmpty waiting.old }
+    ensures builder { OnOk result (IsAt tree.now (k + 1) builder.new) }
+    ensures waiting { OnOk result (IsEmpty waiting.new) }
+    ensures first { D.first disk.new ≡ D.first disk.old }
+    ensures takes { TakesNext tree.now k builder.old builder.new (D.first disk.old) (D.calls disk.old) (D.calls disk.new) result }
+    ensures range { IfSome (history_told (D.first disk.old) (D.calls disk.old)) (λ h. OnOk result (tree.now.data_at + 4096 * (k + 1) ≤ length (shown h))) }
+    ensures strays { IfSome (history_told (D.first disk.old) (D.calls disk.old)) (λ h. LieIn tree.now (length (shown h)) → D.strays disk.new ≡ D.strays disk.old) }
+    ensures cause { HasCause (D.faults disk.old) (D.faults disk.new) result }
+{
+    disk.read(tree.data_at + BLOCK as u64 * k, builder.block_mut())?;
+    builder.push(waiting)?;
+    waiting.write_to(disk, tree.hash_at)?;
+    waiting.clear();
+    Ok(())
+}
+
+// Writes the hash blocks that aren't full, when all data blocks were taken. The answer is the root hash.
+fn finish<D: Disk>(
+    disk: &mut D,
+    tree: &TreePlan,
+    builder: Builder<'_>,
+    waiting: &mut Waiting,
+) -> Result<[u8; 32], Failed>
+    requires plan { IsTreePlan tree.now }
+    requires builder { IsAt tree.now tree.now.blocks builder }
+    requires taken { (taken : List (List ℕ)) × HasTaken builder tree.now.salt taken }
+    requires waiting { IsEmpty waiting.old }
+    ensures first { D.first disk.new ≡ D.first disk.old }
+    ensures done { (taken : List (List ℕ)) → HasTaken builder.entry tree.now.salt taken
+        → OnOk result (D.calls disk.new ≡ D.calls disk.old ++ dones (writes_of tree.now.hash_at (left_puts tree.now taken))) }
+    ensures root { (taken : List (List ℕ)) → HasTaken builder.entry tree.now.salt taken
+        → IfOk result (λ root. root ≡ root_hash tree.now.salt taken) }
+    ensures failed { (taken : List (List ℕ)) → HasTaken builder.entry tree.now.salt taken
+        → OnErr result (MadeFirst (D.calls disk.old) (writes_of tree.now.hash_at (left_puts tree.now taken)) (D.calls disk.new)) }
+    ensures strays { IfSome (history_told (D.first disk.old) (D.calls disk.old)) (λ h. LieIn tree.now (length (shown h)) → D.strays disk.new ≡ D.strays disk.old) }
+    ensures cause { HasCause (D.faults disk.old) (D.faults disk.new) result }
+{
+    let root = builder.finish(waiting)?;
+    waiting.write_to(disk, tree.hash_at)?;
+    Ok(root)
+}
