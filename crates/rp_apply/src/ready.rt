@@ -1,4 +1,4 @@
-ghost use Rattle.std.specs.Prelude.{◌≡◌, ◌≤◌, All, IfOk};
+ghost use Rattle.std.specs.Prelude.{◌≡◌, ◌≤◌, All, IfOk, length};
 ghost use Rattle.rp_base.specs.Geometry.{least_sectors};
 ghost use Rattle.rp_base.specs.Plan.{IsWellFormed, noted_of};
 ghost use Rattle.rp_stops.specs.Order.{target_sectors as target_sectors_of};
@@ -108,6 +108,13 @@ fn copy_of_seen(alloc: Global, seen: &Seen) -> Result<Seen, Memory>
 }
 
 impl Ready {
+    /// How many steps it has.
+    pub fn steps(&self) -> u64
+        ensures { result ≡ length self.now.steps }
+    {
+        self.steps.len() as u64
+    }
+
     /// How many writes its steps are.
     pub fn writes(&self) -> u64
         requires { IsReady self.now }
