@@ -94,7 +94,7 @@ impl<'a> Builder<'a> {
 
     /// Takes the next data block by its digest, and puts the hash blocks that are full with it. After `Failed` the builder
     /// may only be dropped.
-    pub(crate) fn push_digest<K: TreeOut>(
+    pub fn push_digest<K: TreeOut>(
         &mut self,
         digest: [u8; DIGEST],
         out: &mut K,
