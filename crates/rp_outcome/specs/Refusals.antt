@@ -2,6 +2,7 @@
 use Rattle.std.specs.Prelude.{ℕ, List, [], ◌∷◌, ◌++◌, ◌==◌, if◌then◌else◌, codes}
 use Rattle.std.specs.Fmt.{decimal}
 use Rattle.std.specs.List.{flat_map}
+use Rattle.hex.specs.Hex.{encode_lower}
 use Rattle.rp_gpt.specs.declared.table_fault.TableFault.{TableFault}
 use Rattle.rp_gpt.specs.declared.table_fault.TableFault.TheVariants as faults
 use Rattle.rp_outcome.specs.Words.{behind_blank}
@@ -38,6 +39,13 @@ repair_refusal = record { status = exit.image; words = codes "RepairFirst" ∷ [
 
 abbrev pub memory_refusal : Refusal
 memory_refusal = record { status = exit.memory; words = [] }
+
+-- that of a source that has changed: the root hash that was planned, and that of the bytes that were copied
+abbrev pub changed_refusal : List ℕ → List ℕ → Refusal
+changed_refusal planned copied = record {
+  status = exit.changed;
+  words = codes "changed" ∷ encode_lower planned ∷ encode_lower copied ∷ [];
+}
 
 -- the refusal of an image, with these words
 abbrev pub image_refusal : List (List ℕ) → Refusal

@@ -36,3 +36,7 @@ sink = 9
 -- out of memory
 abbrev pub memory : ℕ
 memory = 10
+
+-- the bytes that were copied have another root hash than those that were planned
+abbrev pub changed : ℕ
+changed = 11

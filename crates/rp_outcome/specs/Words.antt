@@ -2,8 +2,9 @@
 use Rattle.std.specs.Prelude.{ℕ, List, ◌++◌, ◌==◌, Option, Some, None, codes, filter_map, if◌then◌else◌, length}
 use Rattle.std.specs.Fmt.{decimal}
 use Rattle.std.specs.List.{flat_map}
+use Rattle.hex.specs.Hex.{encode_lower}
 use Rattle.rp_outcome.specs.declared.refusal.Word.{Word}
-use Rattle.rp_outcome.specs.declared.refusal.Word.TheVariants.{Absent, Text, Number, Piece, Line}
+use Rattle.rp_outcome.specs.declared.refusal.Word.TheVariants.{Absent, Text, Number, Piece, Line, Hash}
 
 -- the name of a definition file, or of its drop-in of this name where there is one
 abbrev pub piece_text : List ℕ → List ℕ → List ℕ
@@ -20,6 +21,7 @@ word_text (Text text) = Some text.now
 word_text (Number number) = Some (decimal number)
 word_text (Piece file part) = Some (piece_text file.now part.now)
 word_text (Line file part line) = Some (line_text file.now part.now line)
+word_text (Hash bytes) = Some (encode_lower bytes.now)
 
 -- a word behind a blank
 abbrev pub behind_blank : List ℕ → List ℕ

@@ -13,5 +13,5 @@ pub use definitions::{def_refusal, load_refusal};
 pub use demand::demand_refusal;
 pub use printing::{finish, refuse};
 pub use refusal::Refusal;
-pub use status::{DEFINITIONS, DEMAND, DISK, DONE, FILES, IMAGE, MEMORY, SINK, WORDS};
+pub use status::{CHANGED, DEFINITIONS, DEMAND, DISK, DONE, FILES, IMAGE, MEMORY, SINK, WORDS};
 pub use table::table_refusal;

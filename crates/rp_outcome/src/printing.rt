@@ -1,5 +1,6 @@
 ghost use Rattle.std.specs.Prelude.{◌++◌, ◌∷◌, [], OnErr, OnOk, codes};
 ghost use Rattle.std.specs.Fmt.{decimal};
+ghost use Rattle.hex.specs.Hex.{encode_lower};
 ghost use Rattle.rp_outcome.specs.Output.{Finishes, PrintsAll, PrintsPart, Refuses, output};
 ghost use Rattle.rp_outcome.specs.Words.{line_text, piece_text, words_text};
 
@@ -79,6 +80,10 @@ fn print_word<K: Sink>(out: &mut K, word: &Word) -> Result<(), Failed>
             print(out, " ")?;
             print_place(out, file, part, line)
         }
+        Word::Hash(bytes) => {
+            print(out, " ")?;
+            print_hash(out, bytes)
+        }
     }
 }
 
@@ -126,6 +131,18 @@ fn print_number<K: Sink>(out: &mut K, number: u64) -> Result<(), Failed>
 {
     let mut buffer = Buffer::new();
     print(out, buffer.format(number))
+}
+
+// Prints a root hash as lower-case hexadecimal digits.
+fn print_hash<K: Sink>(out: &mut K, bytes: &[u8; 32]) -> Result<(), Failed>
+    ensures done { OnOk result (PrintsAll (output K.told K.faults out.old) (output K.told K.faults out.new) (encode_lower bytes.now)) }
+    ensures failed { OnErr result (PrintsPart (output K.told K.faults out.old) (output K.told K.faults out.new) (encode_lower bytes.now)) }
+{
+    let mut digits = [0; 64];
+    match hex::encode_to_slice(bytes.as_slice(), &mut digits) {
+        Ok(()) => out.write(&digits),
+        Err(_) => unreachable!(),
+    }
 }
 
 // Prints a text, or a first part of it where the sink fails.

@@ -1,7 +1,7 @@
 ghost use Rattle.std.specs.Prelude.{◌≡◌, ◌∷◌, []};
-ghost use Rattle.rp_outcome.specs.Refusals.{disk_refusal, folder_refusal, memory_refusal, repair_refusal, source_refusal, words_refusal};
+ghost use Rattle.rp_outcome.specs.Refusals.{changed_refusal, disk_refusal, folder_refusal, memory_refusal, repair_refusal, source_refusal, words_refusal};
 
-use crate::status::{DISK, FILES, IMAGE, MEMORY, WORDS};
+use crate::status::{CHANGED, DISK, FILES, IMAGE, MEMORY, WORDS};
 use std::marker::Model;
 
 /// The most words behind the status on a line.
@@ -17,6 +17,8 @@ pub enum Word<'a> {
     Piece(&'a str, &'a str),
     /// A line of it.
     Line(&'a str, &'a str, u32),
+    /// A root hash.
+    Hash(&'a [u8; 32]),
 }
 
 /// Why a command isn't done: an exit status, and the words that tell the cause. Seen as the status and the words' texts.
@@ -70,6 +72,21 @@ impl<'a> Refusal<'a> {
         ensures { result ≡ repair_refusal }
     {
         Refusal::told(IMAGE, "RepairFirst")
+    }
+
+    /// Of a source that has changed: the bytes that were copied have another root hash than those that were planned.
+    pub fn changed(planned: &'a [u8; 32], copied: &'a [u8; 32]) -> Self
+        ensures { result ≡ changed_refusal planned.now copied.now }
+    {
+        Refusal {
+            status: CHANGED,
+            words: [
+                Word::Text("changed"),
+                Word::Hash(planned),
+                Word::Hash(copied),
+                Word::Absent,
+            ],
+        }
     }
 
     /// Of want of memory.

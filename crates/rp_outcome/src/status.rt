@@ -24,3 +24,6 @@ pub const SINK: u8 = 9;
 
 /// Out of memory. Nothing is printed then.
 pub const MEMORY: u8 = 10;
+
+/// The bytes that were copied have another root hash than those that were planned.
+pub const CHANGED: u8 = 11;

@@ -1,5 +1,6 @@
 use Rattle.std.specs.Prelude.{codes}
 use Rattle.std.specs.Fmt.{decimal}
+use Rattle.hex.specs.Hex.{encode_lower}
 use Rattle.std.proofs.Common.{ap}
 use Rattle.rp_outcome.specs.Words.{line_text, piece_text, word_text}
 use Rattle.rp_outcome.proofs.Printed.{then_failed, words_text-one}
@@ -24,3 +25,8 @@ pub returns-in_ok-print-in-Line-clause-failed : goal.returns-in_ok-print-in-Line
 returns-in_ok-print-in-Line-clause-failed g c =
     rw (words_text-one c.args.word.now (line_text c.in-Line.file.now c.in-Line.part.now c.in-Line.line) (ap word_text c.in-Line.is))
     (then_failed _ _ _ (codes " ") _ c.print_place.result c.in_ok-print-in-Line.ensures.done c.print_place.ensures.failed)
+
+pub returns-in_ok-print-in-Hash-clause-failed : goal.returns-in_ok-print-in-Hash-clause-failed
+returns-in_ok-print-in-Hash-clause-failed g c =
+    rw (words_text-one c.args.word.now (encode_lower c.in-Hash.bytes.now) (ap word_text c.in-Hash.is))
+    (then_failed _ _ _ (codes " ") _ c.print_hash.result c.in_ok-print-in-Hash.ensures.done c.print_hash.ensures.failed)
