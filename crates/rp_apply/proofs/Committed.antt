@@ -92,7 +92,7 @@ module _ (ready : Ready) (is : IsReady ready) where
 
   -- both hashes, where the disk tells
   copied_of : {T : Type 0} (told : Option (List Stored)) (bytes : List ℕ) (old new : List Made) (fault : ApplyFault) → IsLawful (history_of bytes new)
-      → (founds : List Found) × MakesSteps ready.plan (outside_of told ready.paths (Some bytes)) (steps ready.plan ready.seen) founds old new (Err {T = T} fault)
+      → (founds : List Found) × MakesSteps {T = T} ready.plan (outside_of told ready.paths (Some bytes)) (steps ready.plan ready.seen) founds old new (Err fault)
       → length (shown (history_of bytes old)) ≡ 512 * ready.seen.sectors → IfChanged fault (λ planned copied.
       Any (λ noted. ShowsOther ready.plan (shown (history_of bytes new)) planned copied noted.1.role) (noted_of ready.plan))
   copied_of told bytes old new DiskFault lawful m long = tt

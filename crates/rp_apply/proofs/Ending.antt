@@ -20,7 +20,7 @@ use Rattle.rp_steps.specs.Steps.{steps}
 use Rattle.rp_steps.proofs.Composed.{are_calls, fills}
 use Rattle.rp_stops.specs.Final.{IsFinal}
 use Rattle.rp_stops.specs.Honest.{IsTornHonest}
-use Rattle.rp_stops.specs.Order.{AreCallsOf}
+use Rattle.rp_stops.specs.Order.{AreCallsOf, contents_blocks, copies, growth}
 use Rattle.rp_stops.specs.Plans.{IsPlanFor, StopsAlone}
 use Rattle.rp_stops.specs.Rows.{IsInNewRow, grown}
 use Rattle.rp_stops.proofs.Carried.{plan-given}
@@ -68,7 +68,8 @@ module _ (seen : Seen) (plan : Plan) (formed : IsWellFormed seen plan) (fit : No
       (fills seen plan sources (shown h) formed fit given.seen_of.len) in (
         subst (λ (image : List ℕ). IsFinal (shown h) seen plan (contents plan sources (grown (shown h) plan)) image)
             (sym (ap shown now ∙ shown-all_did h all)) there,
-        subst IsSettled (sym (now ∙ ap (all_did h) are.are)) (settled_flat h _ settled),
+        subst IsSettled (sym (now ∙ ap (all_did h) are.are))
+            (settled_flat h (growth seen plan ++ (contents_blocks (contents_calls plan sources) ++ (copies plan are.order ++ are.mbr))) settled),
       )
 
   -- at any moment, whatever the sources do

@@ -214,7 +214,7 @@ module _ (plan : Plan) (sources : Sources) where
             omega (arith, at, p.whole, fits, will.long),
             ap (cut blocks) (ap₂ (λ (a n : ℕ). bytes_at image a n) at p.whole ∙ held ∙ sym there ∙ ap (payload_at plan sources) (sym at)),
           ),
-          laid_none plan sources _ _ (zeros_each IsNoTree 0 (from_byte noted.0 + byte_count noted.0 + 4096 * hash_blocks blocks) (no_tree _ _) _ _ (omega arith) (omega arith)),
+          laid_none _ _ (zeros_each IsNoTree 0 (from_byte noted.0 + byte_count noted.0 + 4096 * hash_blocks blocks) (no_tree _ _) _ _ (omega arith) (omega arith)),
         )
 
     trees_laid : (base image : List ℕ) (rows : List Noted) → All Row_of rows → WillHold base image rows → AreLaid plan sources image (trees_of rows)
@@ -249,7 +249,7 @@ module _ (plan : Plan) (sources : Sources) where
         let split : calls_of_steps plan sources (payloads ++ trees) ≡ front ++ calls_of_steps plan sources trees = flat_map-append (calls_of plan sources) payloads trees in
         let hold : HoldContents plan (contents plan sources image) (all_done image (calls_of_steps plan sources (payloads ++ trees))) =
         contents_hold plan sources seen formed fit image long in
-        laid_both image payloads trees (laid_none plan sources image payloads (payloads_none (new_rows plan) new_are))
+        laid_both image payloads trees (laid_none image payloads (payloads_none (new_rows plan) new_are))
         (trees_laid image (all_done image front) (new_rows plan) new_are
         record {
           long = length-all_done front image (512 * plan.target) long

@@ -127,16 +127,18 @@ of_phase P (step ∷ steps) all = all_left P (step ∷ steps) (Sync ∷ []) (all
 of_each_new : (P : Step → Type 0) (f : Noted → List Step) (rows : List Noted) → All P (flat_map f (filter (λ noted. is_new noted.1.change) rows))
     → All (λ (noted : Noted). is_new noted.1.change ≡ true → All P (f noted)) rows
 of_each_new P f [] all = All-nil (λ (noted : Noted). is_new noted.1.change ≡ true → All P (f noted))
-of_each_new P f (noted ∷ rows) all = by (is_new noted.1.change) refl all where
+of_each_new P f (noted ∷ rows) all = by (is_new noted.1.change) refl all (of_each_new P f rows) where
+  news : List Noted
+  news = filter (λ n. is_new n.1.change) rows
+
   R : Noted → Type 0
   R n = is_new n.1.change ≡ true → All P (f n)
 
-  by : (b : Bool) → is_new noted.1.change ≡ b → All P (flat_map f (cond b (noted ∷ filter (λ n. is_new n.1.change) rows) (filter (λ n. is_new n.1.change) rows)))
+  by : (b : Bool) → is_new noted.1.change ≡ b → All P (flat_map f (cond b (noted ∷ news) news)) → (All P (flat_map f news) → All R rows)
       → All R (noted ∷ rows)
-  by true is some =
-      All-cons R noted rows (λ e. all_left P (f noted) (flat_map f (filter (λ n. is_new n.1.change) rows)) some)
-      (of_each_new P f rows (all_right P (f noted) (flat_map f (filter (λ n. is_new n.1.change) rows)) some))
-  by false is some = All-cons R noted rows (λ e. absurd (let no = sym is ∙ e in cc)) (of_each_new P f rows some)
+  by true is some later =
+      All-cons R noted rows (λ e. all_left P (f noted) (flat_map f news) some) (later (all_right P (f noted) (flat_map f news) some))
+  by false is some later = All-cons R noted rows (λ e. absurd (let no = sym is ∙ e in cc)) (later some)
 
 -- a step's tree is that of a role
 abbrev IsTreeOf : Plan → ℕ → ℕ → List ℕ → List ℕ → Role → Type 0

@@ -1,11 +1,11 @@
 //! A plan is carried out: first all memory is taken, then the image is changed.
 #![tactic(auto)]
 
-mod commit;
+mod carrying;
 mod paths;
 mod ready;
 
-pub use commit::{Done, commit};
+pub use carrying::{Done, commit};
 pub use ready::{Ready, prepare};
 pub use rp_step::ApplyFault;
 

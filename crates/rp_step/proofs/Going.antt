@@ -1,5 +1,5 @@
 -- Steps that were made one after another.
-use Rattle.std.proofs.Common.{◌≡◌, ℕ, zero, suc, ◌+◌, ◌<◌, ◌⊎◌, inl, inr, List, [], ◌∷◌, ◌++◌, length, get_or, take, drop, Result, Ok, Err, refl, sym, ap, ◌∙◌, subst, arith, append_assoc, append-nil}
+use Rattle.std.proofs.Common.{◌≡◌, ℕ, zero, suc, ◌+◌, ◌<◌, ◌⊎◌, inl, inr, List, [], ◌∷◌, ◌++◌, length, get_or, take, drop, Result, Ok, Err, refl, sym, ap, ◌∙◌, subst, arith, add-one, append_assoc, append-nil, drop-cons}
 use Rattle.rp_base.specs.declared.plan.Plan.{Plan}
 use Rattle.rp_disk.specs.Made.{Made, dones}
 use Rattle.rp_disk.specs.Runs.{BrokeOff}
@@ -17,17 +17,15 @@ use Rattle.rp_step.proofs.Single.{some_found}
 take_next : (steps : List Step) (i : ℕ) (d : Step) → i < length steps → take (i + 1) steps ≡ take i steps ++ get_or steps i d ∷ []
 take_next [] i d below = absurd (omega arith)
 take_next (step ∷ steps) zero d below = refl
-take_next (step ∷ steps) (suc i) d below = ap (λ (l : List Step). step ∷ l) (take_next steps i d (omega arith))
+take_next (step ∷ steps) (suc i) d below = rw add-one (ap (λ (l : List Step). step ∷ l) (rw add-one at (take_next steps i d (omega arith))))
 
 pub drop_next : (steps : List Step) (i : ℕ) (d : Step) → i < length steps → drop i steps ≡ get_or steps i d ∷ drop (i + 1) steps
-drop_next [] i d below = absurd (omega arith)
-drop_next (step ∷ steps) zero d below = refl
-drop_next (step ∷ steps) (suc i) d below = drop_next steps i d (omega arith)
+drop_next steps i d below = rw add-one (drop-cons steps i d below)
 
 whole_at : (steps : List Step) (i : ℕ) (d : Step) → i < length steps → steps ≡ take i steps ++ get_or steps i d ∷ drop (i + 1) steps
 whole_at [] i d below = absurd (omega arith)
 whole_at (step ∷ steps) zero d below = refl
-whole_at (step ∷ steps) (suc i) d below = ap (λ (l : List Step). step ∷ l) (whole_at steps i d (omega arith))
+whole_at (step ∷ steps) (suc i) d below = rw add-one (ap (λ (l : List Step). step ∷ l) (rw add-one at (whole_at steps i d (omega arith))))
 
 module _ (plan : Plan) (outside : Outside) where
   -- behind steps that were made, others
@@ -99,7 +97,7 @@ module _ (plan : Plan) (outside : Outside) where
 
   -- one step more
   so_far_more : {T : Type 0} (steps : List Step) (step : Step) (found : Found) (old mid now : List Made) (value : T) → AreSoFar steps old mid
-      → MakesStep plan outside step found mid now (Ok {E = ApplyFault} value) → AreSoFar (steps ++ step ∷ []) old now
+      → MakesStep plan outside step found mid now (Ok value) → AreSoFar (steps ++ step ∷ []) old now
   so_far_more steps step found old mid now value so makes =
       let fs = so.0 in
       let is = so.1 in
@@ -118,7 +116,7 @@ module _ (plan : Plan) (outside : Outside) where
 
   -- all steps
   pub all_made : {T : Type 0} (steps : List Step) (old now : List Made) (value : T) → AreSoFar steps old now
-      → (founds : List Found) × MakesSteps plan outside steps founds old now (Ok {E = ApplyFault} value)
+      → (founds : List Found) × MakesSteps plan outside steps founds old now (Ok value)
   all_made steps old now value so =
       (so.0, record { found_are = so.1.found_are; ran = record { ok = so.1.made; err = tt }; roots = so.1.roots; changed = tt })
 
@@ -133,9 +131,9 @@ module _ (plan : Plan) (outside : Outside) where
       (inl (subst (λ (l : List Made). HasOtherRoot found planned copied l now step) so.made changed))
 
   broken_at : {S T : Type 0} (steps behind : List Step) (step : Step) (found : Found) (old mid now : List Made) (fault : ApplyFault)
-      → AreSoFar steps old mid → MakesStep plan outside step found mid now (Err {T = S} fault)
-      → (founds : List Found) × MakesSteps plan outside (steps ++ step ∷ behind) founds old now (Err {T = T} fault)
-  broken_at {S} {T} steps behind step found old mid now fault so makes =
+      → AreSoFar steps old mid → MakesStep {T = S} plan outside step found mid now (Err fault)
+      → (founds : List Found) × MakesSteps {T = T} plan outside (steps ++ step ∷ behind) founds old now (Err fault)
+  broken_at {S = S} {T = T} steps behind step found old mid now fault so makes =
       let fs = so.0 in
       let is = so.1 in
       let calls = calls_with plan found step in
@@ -160,16 +158,16 @@ module _ (plan : Plan) (outside : Outside) where
 
   -- the same at a place of a list of steps
   pub so_far_at : {T : Type 0} (steps : List Step) (i : ℕ) (d : Step) (found : Found) (old mid now : List Made) (value : T) → i < length steps
-      → AreSoFar (take i steps) old mid → MakesStep plan outside (get_or steps i d) found mid now (Ok {E = ApplyFault} value) → AreSoFar (take (i + 1) steps) old now
+      → AreSoFar (take i steps) old mid → MakesStep plan outside (get_or steps i d) found mid now (Ok value) → AreSoFar (take (i + 1) steps) old now
   so_far_at steps i d found old mid now value below so makes =
       subst (λ (l : List Step). AreSoFar l old now) (sym (take_next steps i d below))
       (so_far_more (take i steps) (get_or steps i d) found old mid now value so makes)
 
   pub broken_there : {S T : Type 0} (steps : List Step) (i : ℕ) (d : Step) (found : Found) (old mid now : List Made) (fault : ApplyFault) (result : Result T ApplyFault)
-      → result ≡ Err fault → i < length steps → AreSoFar (take i steps) old mid → MakesStep plan outside (get_or steps i d) found mid now (Err {T = S} fault)
+      → result ≡ Err fault → i < length steps → AreSoFar (take i steps) old mid → MakesStep {T = S} plan outside (get_or steps i d) found mid now (Err fault)
       → (founds : List Found) × MakesSteps plan outside steps founds old now result
-  broken_there {S} {T} steps i d found old mid now fault result is below so makes =
+  broken_there {S = S} {T = T} steps i d found old mid now fault result is below so makes =
       let P : List Step → Result T ApplyFault → Type 0 = λ l r. (founds : List Found) × MakesSteps plan outside l founds old now r in
       subst (λ (r : Result T ApplyFault). P steps r) (sym is)
       (subst (λ (l : List Step). P l (Err fault)) (sym (whole_at steps i d below))
-      (broken_at {S} {T} (take i steps) (drop (i + 1) steps) (get_or steps i d) found old mid now fault so makes))
+      (broken_at {S = S} {T = T} (take i steps) (drop (i + 1) steps) (get_or steps i d) found old mid now fault so makes))

@@ -2,13 +2,14 @@
 use Rattle.std.proofs.Common.{◌≡◌, ℕ, ◌+◌, ◌*◌, List, [], ◌∷◌, ◌++◌, length, replicate, Option, Some, None, refl, sym, ap, ◌∙◌, subst}
 use Rattle.std.specs.Prelude.{IfSome}
 use Rattle.rp_base.specs.Image.{bytes_at}
+use Rattle.rp_base.specs.declared.geometry.Which.TheVariants.{Primary, Backup}
 use Rattle.rp_base.specs.declared.plan.Plan.{Plan}
 use Rattle.rp_disk.specs.Calls.{all_done}
 use Rattle.rp_disk.specs.History.{IsLawful, shown}
 use Rattle.rp_disk.specs.Made.{Made, dones, history_of, history_told}
 use Rattle.rp_disk.specs.Stops.{Each}
 use Rattle.rp_disk.specs.declared.call.Call.{Call}
-use Rattle.rp_disk.specs.declared.call.Call.TheVariants.{Write}
+use Rattle.rp_disk.specs.declared.call.Call.TheVariants.{Write, SetLen, Sync as SyncCall}
 use Rattle.rp_disk.proofs.Agreeing.{length-resized}
 use Rattle.rp_disk.proofs.Runs.{history_of-dones, shown-all_did}
 use Rattle.rp_format.specs.Written.{tree_calls}
@@ -19,6 +20,7 @@ use Rattle.rp_steps.specs.Writes.{piece, pieces}
 use Rattle.rp_steps.specs.declared.step.Step.{Step}
 use Rattle.rp_steps.specs.declared.step.Step.TheVariants.{Grow, Zero, Copy, Tree, ClosePrimary, ArrayPrimary, HeaderPrimary, CloseBackup, ArrayBackup, HeaderBackup, Mbr, Sync}
 use Rattle.rp_steps.proofs.Written.{Each-append, Each-map}
+use Rattle.rp_stops.specs.Order.{array_call, close_call, header_call, mbr_call}
 use Rattle.rp_verity.specs.Order.{order}
 use Rattle.rp_verity.specs.Puts.{placed}
 use Rattle.rp_verity.specs.Superblock.{superblock}
@@ -49,8 +51,8 @@ pub length_after : (plan : Plan) (found : Found) (step : Step) (first : List ℕ
     → IfSome (history_told (Some first) new) IsLawful → length (shown (history_of first new)) ≡ size_after (length (shown (history_of first old))) step
 unfolding calls_with calls_of
 length_after plan found (Grow len) first old new done lawful =
-    ap length (now_shown first old new _ done) ∙ length-resized (shown (history_of first old)) len
-length_after plan found Sync first old new done lawful = ap length (now_shown first old new _ done)
+    ap length (now_shown first old new (SetLen len ∷ []) done) ∙ length-resized (shown (history_of first old)) len
+length_after plan found Sync first old new done lawful = ap length (now_shown first old new (SyncCall ∷ []) done)
 length_after plan found (Zero at len) first old new done lawful =
     kept first old new (in_pieces at (replicate len 0)) done (pieces-are at (replicate len 0)) lawful
 length_after plan found (Copy file at len) first old new done lawful =
@@ -59,13 +61,13 @@ length_after plan found (Tree data_at hash_at blocks salt uuid root) first old n
     kept first old new (tree_calls (tree_of data_at hash_at blocks salt uuid root) found.blocks) done
     (Each-append IsWrite (tree_writes hash_at blocks (stored_tree salt found.blocks)) (Write hash_at (superblock uuid blocks salt) ∷ [])
     (tree-are hash_at blocks (stored_tree salt found.blocks)) (refl, tt)) lawful
-length_after plan found ClosePrimary first old new done lawful = kept first old new _ done (refl, tt) lawful
-length_after plan found ArrayPrimary first old new done lawful = kept first old new _ done (refl, tt) lawful
-length_after plan found HeaderPrimary first old new done lawful = kept first old new _ done (refl, tt) lawful
-length_after plan found CloseBackup first old new done lawful = kept first old new _ done (refl, tt) lawful
-length_after plan found ArrayBackup first old new done lawful = kept first old new _ done (refl, tt) lawful
-length_after plan found HeaderBackup first old new done lawful = kept first old new _ done (refl, tt) lawful
-length_after plan found Mbr first old new done lawful = kept first old new _ done (refl, tt) lawful
+length_after plan found ClosePrimary first old new done lawful = kept first old new (close_call plan Primary ∷ []) done (refl, tt) lawful
+length_after plan found ArrayPrimary first old new done lawful = kept first old new (array_call plan Primary ∷ []) done (refl, tt) lawful
+length_after plan found HeaderPrimary first old new done lawful = kept first old new (header_call plan Primary ∷ []) done (refl, tt) lawful
+length_after plan found CloseBackup first old new done lawful = kept first old new (close_call plan Backup ∷ []) done (refl, tt) lawful
+length_after plan found ArrayBackup first old new done lawful = kept first old new (array_call plan Backup ∷ []) done (refl, tt) lawful
+length_after plan found HeaderBackup first old new done lawful = kept first old new (header_call plan Backup ∷ []) done (refl, tt) lawful
+length_after plan found Mbr first old new done lawful = kept first old new (mbr_call plan ∷ []) done (refl, tt) lawful
 
 -- no call of the steps so far passed the disk's end, where all lie in it; and the steps that are left do
 unfoldable pub LieSoFar : Plan → Option (List ℕ) → List Step → List Step → List Made → List Made → ℕ → ℕ → Type 0

@@ -67,7 +67,7 @@ some_found outside made (Copy file at len) =
     (record { bytes = c.0; blocks = [] }, c.1)
 some_found outside made (Tree data_at hash_at blocks salt uuid root) =
     let b = some_blocks (tree_of data_at hash_at blocks salt uuid root) outside.first made in
-    (record { bytes = []; blocks = b.0 }, b.1)
+    (record { bytes = []; blocks = b.0 }, (b.1, b.2))
 some_found outside made (Grow len) = (nothing_found, tt)
 some_found outside made (Zero at len) = (nothing_found, tt)
 some_found outside made ClosePrimary = (nothing_found, tt)

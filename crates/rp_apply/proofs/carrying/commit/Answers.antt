@@ -1,5 +1,5 @@
 use Rattle.rp_apply.proofs.Committed.{any_moment_of, changed_of, complete_of, ended_of, planned_of, strays_of, told_of}
-use Rattle.rp_apply.proofs.commit.commit.Goals as goal
+use Rattle.rp_apply.proofs.carrying.commit.Goals as goal
 
 pub returns-clause-planned : goal.returns-clause-planned
 returns-clause-planned g c = planned_of c.args.ready c.requires _ _ _ _ c.carry_out.result c.carry_out.ensures.made

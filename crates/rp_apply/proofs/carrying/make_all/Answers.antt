@@ -3,7 +3,7 @@ use Rattle.std.specs.Prelude.{All}
 use Rattle.rp_steps.specs.declared.step.Step.{Step}
 use Rattle.rp_apply.specs.Ready.{NamesPath}
 use Rattle.rp_apply.proofs.Can.{can_make}
-use Rattle.rp_apply.proofs.commit.make_all.Goals as goal
+use Rattle.rp_apply.proofs.carrying.make_all.Goals as goal
 
 pub make_steps-requires-clause-can : goal.make_steps-requires-clause-can
 make_steps-requires-clause-can g c =
@@ -24,3 +24,9 @@ make_steps-requires-clause-goal g c =
 
 pub make_steps-requires-clause-stocked : goal.make_steps-requires-clause-stocked
 make_steps-requires-clause-stocked g c = record { leased = c.requires.leased; copies = c.requires.copies }
+
+pub returns-clause-made : goal.returns-clause-made
+returns-clause-made g c = rw c.as_slice.ensures at c.make_steps.ensures.made
+
+pub returns-clause-source_strays : goal.returns-clause-source_strays
+returns-clause-source_strays g c = rw c.as_slice.ensures at c.make_steps.ensures.source_strays
