@@ -30,6 +30,8 @@ use Rattle.rp_steps.proofs.Written.{Each-append}
 use Rattle.rp_stops.specs.Order as stops
 use Rattle.rp_stops.specs.Order.{AreCallsOf, contents_blocks}
 use Rattle.rp_stops.specs.Rows.{IsInNewRow, IsInside}
+use Rattle.rp_apply.specs.Called.{AreAlike, AreCallsFor, no_sources}
+use Rattle.rp_apply.proofs.Alike.{steps_alike}
 use Rattle.rp_apply.proofs.Can.{IsRow, are_rows, role_fits}
 use Rattle.rp_apply.proofs.Every.{Everywhere, copies, grown, mbr}
 use Rattle.rp_apply.proofs.Inside.{pieces_in, some_pieces, some_tree, tree_in}
@@ -119,8 +121,9 @@ module _ (plan : Plan) (outside : Outside) where
   -- the phase of contents is one block, where it has steps
   block_is : (made : List Made) (founds : List Found) (steps : List Step) → AreFound plan outside made founds (synced (phase_of steps)) → All InNewRows steps
       → (body : List Call) × Each (IsInNewRow plan) body × (all_calls plan founds (synced (phase_of steps)) ≡ flat (contents_blocks body))
+      × AreAlike body (calls_of_steps plan no_sources steps)
   unfolding calls_with calls_of
-  block_is made [] [] are each = ([], tt, refl)
+  block_is made [] [] are each = ([], tt, refl, tt)
   block_is made (found ∷ founds) [] are each = absurd are
   block_is made founds (step ∷ steps) are each =
       let r = split made founds (step ∷ steps) (Sync ∷ []) (subst (λ (l : List Step). AreFound plan outside made founds l) (append-nil ((step ∷ steps) ++ Sync ∷ [])) are) in
@@ -130,6 +133,7 @@ module _ (plan : Plan) (outside : Outside) where
         ap (all_calls plan founds) (append-nil ((step ∷ steps) ++ Sync ∷ [])) ∙ r.is
             ∙ ap (λ (l : List Call). body ++ l) (exact_all (made ++ dones body) r.back (Sync ∷ []) r.back_are (All-cons IsExact Sync [] tt (All-nil IsExact)))
             ∙ sym (closed made r.front step steps r.front_are each),
+        steps_alike plan outside made r.front (step ∷ steps) r.front_are,
       )
 
   module _ (seen : Seen) (formed : IsWellFormed seen plan) (fit : NotesFit plan) where
@@ -236,10 +240,11 @@ module _ (plan : Plan) (outside : Outside) where
         (append_assoc (flat x ++ flat y) (flat z) (flat w) ∙ append_assoc (flat x) (flat y) (flat z ++ flat w)
         ∙ sym (flat-append x (y ++ (z ++ w)) ∙ ap (λ (l : List Call). flat x ++ l) (flat-append y (z ++ w) ∙ ap (λ (l : List Call). flat y ++ l) (flat-append z w))))
 
-    pub are_calls_with : (made : List Made) (founds : List Found) → AreFound plan outside made founds (steps plan seen)
-        → (body : List Call) × AreCallsOf seen plan body (all_calls plan founds (steps plan seen))
+    -- all of them, with writes into new rows that are alike those of the plan
+    pub are_calls_like : (made : List Made) (founds : List Found) → AreFound plan outside made founds (steps plan seen)
+        → (calls : AreCallsFor seen plan (all_calls plan founds (steps plan seen))) × Each (IsInNewRow plan) calls.body
     unfolding steps phases growth
-    are_calls_with made founds are =
+    are_calls_like made founds are =
         let order = written_copies plan seen in
         let contents = phase_of (contents_steps plan) in
         let one = part_added (growth plan seen) contents _ _ refl refl in
@@ -256,16 +261,28 @@ module _ (plan : Plan) (outside : Outside) where
         ∙ calls-synced plan nothing (flat_map copy_phases order) ∙ ap flat (copies_as plan nothing order) in
         let m = exact_all _ last.back (synced (mbr_phases plan seen)) last.back_are (mbr IsExact plan (λ noted. ⊥) nowhere seen)
         ∙ calls-synced plan nothing (mbr_phases plan seen) in (
-          block.0,
           record {
-            order = order;
-            mbr = map (calls_of_steps plan nothing) (mbr_phases plan seen);
-            ordered = order_is seen plan;
-            mbr_part = mbr_part plan nothing seen;
-            inside = block.1;
+            body = block.0;
+            alike = block.3;
             are = ap (all_calls plan founds) (sym three) ∙ last.is
                 ∙ ap (λ (l : List Call). l ++ all_calls plan last.back (synced (mbr_phases plan seen)))
                 (next.is ∙ ap (λ (l : List Call). l ++ all_calls plan next.back (synced (flat_map copy_phases order))) first.is)
                 ∙ parts_are made founds block.0 _ _ _ _ order g block.2 k m;
+          },
+          block.1,
+        )
+
+    pub are_calls_with : (made : List Made) (founds : List Found) → AreFound plan outside made founds (steps plan seen)
+        → (body : List Call) × AreCallsOf seen plan body (all_calls plan founds (steps plan seen))
+    are_calls_with made founds are =
+        let like = are_calls_like made founds are in (
+          like.0.body,
+          record {
+            order = written_copies plan seen;
+            mbr = map (calls_of_steps plan nothing) (mbr_phases plan seen);
+            ordered = order_is seen plan;
+            mbr_part = mbr_part plan nothing seen;
+            inside = like.1;
+            are = like.0.are;
           },
         )

@@ -1,3 +1,4 @@
+pub mod Alike
 pub mod Anyhow
 pub mod Can
 pub mod Committed

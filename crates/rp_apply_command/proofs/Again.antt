@@ -25,7 +25,7 @@ use Rattle.rp_steps.specs.Steps.{mbr_phases, written_copies}
 use Rattle.rp_steps.proofs.Made.{calls-flat}
 use Rattle.rp_stops.specs.Order.{contents_blocks, copies, growth}
 use Rattle.rp_stops.proofs.Accepting.{accepted-sized}
-use Rattle.rp_apply_command.specs.Called.{AreAlike, AreCallsFor, calls_around, no_sources}
+use Rattle.rp_apply.specs.Called.{AreAlike, AreCallsFor, calls_around, no_sources}
 use Rattle.rp_apply_command.specs.Ends.{CarriesSome, StopsSafely}
 
 none_of : {X : Type 0} (xs ys : List X) → xs ++ ys ≡ [] → (xs ≡ []) × (ys ≡ [])

@@ -14,7 +14,7 @@ use Rattle.rp_steps.proofs.Composed.{are_calls}
 use Rattle.rp_steps.proofs.Made.{mbr_part, order_is}
 use Rattle.rp_stops.specs.Order.{AreCallsOf}
 use Rattle.rp_stops.specs.Rows.{IsInNewRow, IsInside}
-use Rattle.rp_apply_command.specs.Called.{AreAlike, AreCallsFor, IsAlike, no_sources}
+use Rattle.rp_apply.specs.Called.{AreAlike, AreCallsFor, IsAlike, no_sources}
 
 inside_alike : (row : Row) (call other : Call) → IsAlike call other → IsInside row other → IsInside row call
 inside_alike row (Write at bytes) (Write place others) alike inside = (omega (arith, alike.0, inside.0), omega (arith, alike.0, alike.1, inside.1))

@@ -5,3 +5,5 @@ pub mod Moments
 pub mod Again
 pub mod Ended
 pub mod Told
+pub mod Carried
+pub mod Rooted

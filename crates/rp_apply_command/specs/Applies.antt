@@ -1,8 +1,8 @@
 -- What `apply` does, stage by stage: the definitions are read, the disk is synced, what is to become of the image is planned, all
 -- memory is taken, the plan is carried out, and it is told.
-use Rattle.std.specs.Prelude.{ℕ, ◌≡◌, ◌≢◌, ◌⊎◌, List, [], ◌∷◌, Any, Bool, true, length, Result, Ok, Err, IfOk, IfSome, IfErr, codes}
-use Rattle.hex.specs.Hex.{encode_lower}
-use Rattle.rp_apply.specs.Sourced.{paths_of, sources_in}
+use Rattle.std.specs.Prelude.{ℕ, ◌≡◌, ◌≢◌, ◌⊎◌, List, [], ◌∷◌, Any, Bool, true, length, Result, Ok, Err, IfOk, IfSome, IfErr}
+use Rattle.rp_apply.specs.Sourced.{paths_of}
+use Rattle.rp_step.specs.Sourced.{sources_in}
 use Rattle.rp_base.specs.Plan.{Noted, noted_of}
 use Rattle.rp_base.specs.Table.{TableFits}
 use Rattle.rp_base.specs.declared.guid.Guid.{Guid}
@@ -16,7 +16,8 @@ use Rattle.rp_io.specs.Files.{Tree}
 use Rattle.rp_io.specs.declared.stored.Stored.{Stored}
 use Rattle.rp_outcome.specs.Device.{Device, history}
 use Rattle.rp_outcome.specs.Output.{Output, Finishes, Refuses}
-use Rattle.rp_outcome.specs.Refusals.{Refusal, disk_refusal, memory_refusal, source_refusal}
+use Rattle.rp_outcome.specs.Refusals.{Refusal, changed_refusal, disk_refusal, memory_refusal, source_refusal}
+use Rattle.rp_outcome.specs.Statuses as exit
 use Rattle.rp_outcome.specs.Store.{Store}
 use Rattle.rp_planned.specs.Planning.{PlansImage}
 use Rattle.rp_planned.specs.declared.planned.Planned.{Planned}
@@ -28,21 +29,11 @@ use Rattle.rp_steps.specs.Calls.{calls as calls_for}
 use Rattle.rp_steps.specs.Contents.{NotesFit}
 use Rattle.rp_steps.specs.Steps.{steps}
 use Rattle.rp_steps.specs.Writes.{writes}
-use Rattle.rp_apply_command.specs.Called.{AreCallsFor}
+use Rattle.rp_apply.specs.Called.{AreCallsFor}
 
 -- an answer that is done or refused, and tells no more
 abbrev pub Outcome : Type 0
 Outcome = Result (Unit {0}) Refusal
-
--- the exit status where the bytes that were copied have another root hash than those that were planned, and its refusal
-abbrev pub changed_status : ℕ
-changed_status = 11
-
-abbrev pub changed_refusal : List ℕ → List ℕ → Refusal
-changed_refusal planned copied = record {
-  status = changed_status;
-  words = codes "changed" ∷ encode_lower planned ∷ encode_lower copied ∷ [];
-}
 
 -- the disk was synced, or the sync failed; no other call was made
 pub record Opens (before now : Device) (answer : Outcome) : Type 0 where
@@ -83,7 +74,7 @@ pub record CarriesOut (definitions : Definitions) (planned : Planned) (disk late
   pub are : AreCallsFor planned.seen planned.plan calls
   pub exact : IfSome (history disk) (λ h. IfSome sources.told (λ files.
       (calls ≡ calls_for planned.plan planned.seen (sources_in files (paths_of definitions.list)))
-      × IfErr answer (λ refusal. refusal.status ≢ changed_status)))
+      × IfErr answer (λ refusal. refusal.status ≢ exit.changed)))
   pub ran : Runs disk.calls calls later.calls answer
   pub strays : IfSome (history disk) (λ h. later.strays ≡ disk.strays)
   pub refusal : IfErr answer (IsCommitRefusal planned)

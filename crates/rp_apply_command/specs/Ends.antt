@@ -1,6 +1,7 @@
 -- What a run of `apply` made of an image, by its exit status, and what a stop at any moment might have left.
 use Rattle.std.specs.Prelude.{ℕ, ◌≡◌, ◌⊎◌, ◌++◌, List, [], ◌∷◌, Bool, IfSome, Ok}
-use Rattle.rp_apply.specs.Sourced.{paths_of, sources_in}
+use Rattle.rp_apply.specs.Sourced.{paths_of}
+use Rattle.rp_step.specs.Sourced.{sources_in}
 use Rattle.rp_base.specs.declared.plan.Plan.{Plan}
 use Rattle.rp_base.specs.declared.seen.Seen.{Seen}
 use Rattle.rp_defs.specs.WellFormed.{IsWellFormed}
@@ -28,8 +29,8 @@ use Rattle.rp_sizes.specs.declared.need.Fact.{Fact}
 use Rattle.rp_steps.specs.Calls.{calls as calls_for}
 use Rattle.rp_steps.specs.Contents.{Sources, contents}
 use Rattle.rp_stops.specs.Rows.{grown}
-use Rattle.rp_apply_command.specs.Applies.{IsCommitRefusal, PlanFits, applied_report, changed_status}
-use Rattle.rp_apply_command.specs.Called.{AreCallsFor}
+use Rattle.rp_apply_command.specs.Applies.{IsCommitRefusal, PlanFits, applied_report}
+use Rattle.rp_apply.specs.Called.{AreCallsFor}
 
 -- each image that a stop between or inside any calls of the run might have left could have been left when it began, or a sync was
 -- done, and it is one of those that have Safe, by the calls made behind the sync
@@ -110,7 +111,7 @@ abbrev pub IsBehind : ℕ → Type 0
 IsBehind status = (status ≡ exit.done) ⊎ (status ≡ exit.sink)
 
 abbrev pub IsBetween : ℕ → Type 0
-IsBetween status = (status ≡ exit.disk) ⊎ (status ≡ exit.files) ⊎ (status ≡ changed_status)
+IsBetween status = (status ≡ exit.disk) ⊎ (status ≡ exit.files) ⊎ (status ≡ exit.changed)
 
 -- how a run of `apply` ends: refused before anything was carried out; with all carried out and told, as far as the sink took it;
 -- or broken off, before anything was carried out or on the way

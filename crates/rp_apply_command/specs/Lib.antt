@@ -1,3 +1,3 @@
-pub mod Called
 pub mod Applies
+pub mod Carrying
 pub mod Ends

@@ -1,12 +1,15 @@
-ghost use Rattle.std.specs.Prelude.{◌≡◌, ◌≤◌, ◌%◌, ◌^◌, ℕ, List};
+ghost use Rattle.std.specs.Prelude.{◌≡◌, ◌≤◌, ◌%◌, ◌^◌, ℕ, Bool, List, IfOk};
+ghost use Rattle.rp_apply.specs.Ready.{IsReady, IsReadyFor};
 ghost use Rattle.rp_base.specs.Geometry.{IsSector};
-ghost use Rattle.rp_base.specs.Plan.{IsWellFormed as IsPlan};
 ghost use Rattle.rp_defs.specs.WellFormed.{IsWellFormed};
+ghost use Rattle.rp_defs.specs.declared.definition.Definitions.{Definitions as Defined};
 ghost use Rattle.rp_disk.specs.declared.call.Call.{Call};
 ghost use Rattle.rp_outcome.specs.Device.{device};
 ghost use Rattle.rp_outcome.specs.Output.{output};
 ghost use Rattle.rp_outcome.specs.Store.{store};
-ghost use Rattle.rp_apply_command.specs.Applies.{Applies, AppliesOpened, AppliesPlanned, PlanFits};
+ghost use Rattle.rp_planned.specs.declared.planned.Planned.{Planned as Aim};
+ghost use Rattle.rp_apply_command.specs.Applies.{Applies, AppliesOpened, AppliesPlanned, Commits, PlanFits, applied_report};
+ghost use Rattle.rp_apply_command.specs.Carrying.{CanPrepare, IsPlanOf};
 
 use rp_apply::{ApplyFault, Ready, commit, prepare};
 use rp_base::{Failed, Memory, Text};
@@ -89,8 +92,9 @@ fn apply_planned<D: Disk, S: Sources, K: Sink>(
     sources: &mut S,
     out: &mut K,
 ) -> u8
-    requires formed { IsPlan planned.now.seen planned.now.plan }
-    requires list { IsWellFormed definitions.now.list }
+    requires can { CanPrepare definitions.now.list planned.now }
+    requires is_of { IsPlanOf definitions.now.list planned.now
+        (device D.first D.calls D.faults D.strays disk.old) (store S.told S.faults S.strays sources.old) }
     ensures fits { PlanFits planned.now }
     ensures applies { (calls : List Call) × AppliesPlanned json definitions.now
         (device D.first D.calls D.faults D.strays disk.old) (device D.first D.calls D.faults D.strays disk.new)
@@ -103,21 +107,28 @@ fn apply_planned<D: Disk, S: Sources, K: Sink>(
     }
 }
 
-// All memory for carrying out a plan, and its text.
+// All memory for carrying out a plan, and its text. As of each value of the type, the numbers of a plan are within their fields.
+#[tactic(auto, using(rp_plan_command::proofs::Noted::as_many))]
 fn prepared(
     alloc: Global,
     json: bool,
     definitions: &Definitions,
     planned: &Planned,
-) -> Result<(Ready, Text), Memory> {
+) -> Result<(Ready, Text), Memory>
+    requires { CanPrepare definitions.now.list planned.now }
+    ensures fits { PlanFits planned.now }
+    ensures ready { IfOk result (λ made. IsReadyFor planned.now.plan planned.now.seen definitions.now.list made.0) }
+    ensures text { IfOk result (λ made. made.1 ≡ applied_report json definitions.now planned.now) }
+{
+    let plan = &planned.plan;
     let ready = prepare(
         alloc,
-        &planned.plan,
+        plan,
         &planned.seen,
         definitions.list.as_slice(),
     )?;
     let (steps, writes) = (ready.steps(), ready.writes());
-    let text = plan_text(alloc, json, &planned.plan, definitions, steps, writes, true)?;
+    let text = plan_text(alloc, json, plan, definitions, steps, writes, true)?;
     Ok((ready, text))
 }
 
@@ -128,7 +139,17 @@ fn carried_out<D: Disk, S: Sources, K: Sink>(
     disk: &mut D,
     sources: &mut S,
     out: &mut K,
-) -> u8 {
+) -> u8
+    requires { IsReady ready }
+    ensures { (json : Bool) (definitions : Defined) (planned : Aim) → IsReadyFor planned.plan planned.seen definitions.list ready
+        → text.now ≡ applied_report json definitions planned
+        → IsPlanOf definitions.list planned
+        (device D.first D.calls D.faults D.strays disk.old) (store S.told S.faults S.strays sources.old)
+        → (calls : List Call) × Commits json definitions planned
+        (device D.first D.calls D.faults D.strays disk.old) (device D.first D.calls D.faults D.strays disk.new)
+        (store S.told S.faults S.strays sources.old) (store S.told S.faults S.strays sources.new)
+        (output K.told K.faults out.old) (output K.told K.faults out.new) result calls }
+{
     match commit(ready, disk, sources) {
         Ok(_) => finish(out, text),
         Err(ApplyFault::DiskFault) => refuse(out, &Refusal::disk()),

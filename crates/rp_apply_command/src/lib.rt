@@ -1,6 +1,8 @@
-//! The command `apply`: what it promises of an image.
+//! The command `apply`: changes an image to what definitions ask for.
 #![tactic(auto)]
 
+mod command;
 mod law;
 
+pub use command::apply;
 pub use law::{apply_ends, apply_on_an_idle_image, apply_refuses_as_plan};

@@ -1,0 +1,199 @@
+-- What carrying out a plan makes of disk and sources, by what is known of its steps.
+use Rattle.std.proofs.Common.{◌≡◌, ◌≢◌, ◌≤◌, ℕ, ◌*◌, List, length, Option, Some, None, Result, Ok, Err, refl, sym, ap, ◌∙◌, subst, inl, inr, arith}
+use Rattle.std.specs.Prelude.{IfErr, IfSome}
+use Rattle.rp_base.specs.Plan.{IsWellFormed, Noted}
+use Rattle.rp_base.specs.declared.plan.Plan.{Plan}
+use Rattle.rp_base.specs.declared.plan.Role.{Role}
+use Rattle.rp_base.specs.declared.plan.Role.TheVariants.{Plain, Data, Hash}
+use Rattle.rp_base.specs.declared.seen.Seen.{Seen}
+use Rattle.rp_defs.specs.declared.definition.Definitions.{Definitions}
+use Rattle.rp_disk.specs.History.{History, shown}
+use Rattle.rp_disk.specs.Made.{Made, history_of, history_told}
+use Rattle.rp_disk.specs.Runs.{Runs}
+use Rattle.rp_disk.specs.declared.call.Call.{Call}
+use Rattle.rp_io.specs.declared.stored.Stored.{Stored}
+use Rattle.rp_outcome.specs.Device.{Device, history}
+use Rattle.rp_outcome.specs.Refusals.{Refusal, changed_refusal, disk_refusal, source_refusal}
+use Rattle.rp_outcome.specs.Statuses as exit
+use Rattle.rp_outcome.specs.Store.{Store}
+use Rattle.rp_planned.specs.declared.planned.Planned.{Planned}
+use Rattle.rp_reading.specs.Stages.{HasStageCause}
+use Rattle.rp_step.specs.Causes.{HasDiskCause, HasSourceCause}
+use Rattle.rp_step.specs.Found.{Found, all_calls, outside_of}
+use Rattle.rp_step.specs.Run.{MakesSteps}
+use Rattle.rp_step.specs.Sourced.{sources_in}
+use Rattle.rp_step.specs.declared.fault.ApplyFault.{ApplyFault}
+use Rattle.rp_step.specs.declared.fault.ApplyFault.TheVariants.{DiskFault, SourceFault, SourceChanged}
+use Rattle.rp_step.proofs.Tied.{all_tied}
+use Rattle.rp_steps.specs.Calls.{calls as calls_for}
+use Rattle.rp_steps.specs.Contents.{NotesFit, Sources}
+use Rattle.rp_steps.specs.Steps.{steps}
+use Rattle.rp_steps.specs.declared.step.Step.{Step}
+use Rattle.rp_apply.specs.Called.{AreCallsFor}
+use Rattle.rp_apply.specs.Commits.{ChangesAt, HasOther, HasPlannedRoot, HavePlannedRoots}
+use Rattle.rp_apply.specs.Ready.{IsReadyFor}
+use Rattle.rp_apply.specs.Sourced.{paths_of}
+use Rattle.rp_apply.specs.declared.ready.Ready.{Ready}
+use Rattle.rp_apply.proofs.Anyhow.{are_calls_like}
+use Rattle.rp_apply.proofs.Judging.{changes_at}
+use Rattle.rp_apply.proofs.Laid.{laid}
+use Rattle.rp_apply_command.specs.Applies.{CarriesOut, HasCommitCauses, IsCommitRefusal, Outcome}
+use Rattle.rp_apply_command.proofs.Rooted.{root_of_row}
+
+-- the answer with the refusal of each fault
+abbrev pub outcome_of : {T : Type 0} → Result T ApplyFault → Outcome
+outcome_of (Ok value) = Ok tt
+outcome_of (Err DiskFault) = Err disk_refusal
+outcome_of (Err SourceFault) = Err source_refusal
+outcome_of (Err (SourceChanged planned copied)) = Err (changed_refusal planned copied)
+
+same_err : (a b : Refusal) → ◌≡◌ {A = Outcome} (Err a) (Err b) → a ≡ b
+same_err a b e = cc
+
+-- refusals of other statuses are others
+apart : (a b : Refusal) → a.status ≢ b.status → ◌≡◌ {A = Outcome} (Err a) (Err b) → ⊥
+apart a b differ e = differ (ap (λ (r : Refusal). r.status) (same_err a b e))
+
+done_apart : (a : Refusal) → ◌≡◌ {A = Outcome} (Ok tt) (Err a) → ⊥
+done_apart a e = absurd (cc)
+
+runs_as : {T : Type 0} (old new : List Made) (calls : List Call) (result : Result T ApplyFault) → Runs old calls new result
+    → Runs old calls new (outcome_of result)
+runs_as old new calls (Ok value) ran = record { ok = ran.ok; err = tt }
+runs_as old new calls (Err DiskFault) ran = record { ok = tt; err = ran.err }
+runs_as old new calls (Err SourceFault) ran = record { ok = tt; err = ran.err }
+runs_as old new calls (Err (SourceChanged planned copied)) ran = record { ok = tt; err = ran.err }
+
+disk_cause : {T : Type 0} (before now : ℕ) (result : Result T ApplyFault) → HasDiskCause before now result
+    → HasStageCause disk_refusal before now (outcome_of result)
+disk_cause before now (Ok value) has = record { failed = λ e. absurd (done_apart disk_refusal e); kept = inr has }
+disk_cause before now (Err DiskFault) has = record { failed = λ e. has.1; kept = inl refl }
+disk_cause before now (Err SourceFault) has = record {
+  failed = λ e. absurd (apart source_refusal disk_refusal (λ f. omega (arith, f)) e);
+  kept = inr has;
+}
+disk_cause before now (Err (SourceChanged planned copied)) has = record {
+  failed = λ e. absurd (apart (changed_refusal planned copied) disk_refusal (λ f. omega (arith, f)) e);
+  kept = inr has;
+}
+
+source_cause : {T : Type 0} (before now : ℕ) (result : Result T ApplyFault) → HasSourceCause before now result
+    → HasStageCause source_refusal before now (outcome_of result)
+source_cause before now (Ok value) has = record { failed = λ e. absurd (done_apart source_refusal e); kept = inr has }
+source_cause before now (Err DiskFault) has = record {
+  failed = λ e. absurd (apart disk_refusal source_refusal (λ f. omega (arith, f)) e);
+  kept = inr has;
+}
+source_cause before now (Err SourceFault) has = record { failed = λ e. has.1; kept = inl refl }
+source_cause before now (Err (SourceChanged planned copied)) has = record {
+  failed = λ e. absurd (apart (changed_refusal planned copied) source_refusal (λ f. omega (arith, f)) e);
+  kept = inr has;
+}
+
+-- no tree has both the planned root hash and another
+clash : (plan : Plan) (sources : Sources) (planned copied : List ℕ) (role : Role) → HasPlannedRoot plan sources role
+    → HasOther plan sources planned copied role → ⊥
+clash plan sources planned copied Plain has other = other
+clash plan sources planned copied (Data partner hash) has other = other
+clash plan sources planned copied (Hash partner blocks salt uuid root) has other = other.2 (other.1 ∙ has ∙ sym other.0)
+
+-- where each pair is planned with its root hash, no source has changed
+unchanged : {T : Type 0} (plan : Plan) (sources : Sources) (result : Result T ApplyFault) → ChangesAt plan sources result
+    → HavePlannedRoots plan sources → IfErr (outcome_of result) (λ refusal. refusal.status ≢ exit.changed)
+unchanged plan sources (Ok value) changes roots = tt
+unchanged plan sources (Err DiskFault) changes roots = λ e. omega (arith, e)
+unchanged plan sources (Err SourceFault) changes roots = λ e. omega (arith, e)
+unchanged plan sources (Err (SourceChanged planned copied)) changes roots =
+    let any = changes.changed in
+    let has : HasPlannedRoot plan sources any.1.1.role =
+    subst (λ (n : Noted). HasPlannedRoot plan sources n.1.role) any.3 (roots any.0 any.1 any.2) in
+    absurd (clash plan sources planned copied any.1.1.role has any.4)
+
+module _ (definitions : Definitions) (planned : Planned) (disk later : Device) (sources drained : Store (List Stored))
+    (formed : IsWellFormed planned.seen planned.plan) (fit : NotesFit planned.plan)
+    (long : IfSome (history disk) (λ h. length (shown h) ≡ 512 * planned.seen.sectors))
+    (roots : IfSome (history disk) (λ h. IfSome sources.told (λ files.
+    HavePlannedRoots planned.plan (sources_in files (paths_of definitions.list))))) where
+  abbrev Makes : {T : Type 0} → List Found → Result T ApplyFault → Type 0
+  Makes founds result = MakesSteps planned.plan (outside_of sources.told (paths_of definitions.list) disk.first)
+      (steps planned.plan planned.seen) founds disk.calls later.calls result
+
+  refusal_is : {T : Type 0} (founds : List Found) (result : Result T ApplyFault) → Makes founds result
+      → IfErr (outcome_of result) (IsCommitRefusal planned)
+  refusal_is founds (Ok value) makes = tt
+  refusal_is founds (Err DiskFault) makes = inl refl
+  refusal_is founds (Err SourceFault) makes = inr (inl refl)
+  refusal_is founds (Err (SourceChanged root copied)) makes =
+      let is = root_of_row planned.seen planned.plan formed founds root copied disk.calls later.calls makes.changed in
+      inr (inr (root, copied, refl, λ e. is.0 (sym e), is.1))
+
+  abbrev Exact : {T : Type 0} → List Found → Result T ApplyFault → List Stored → Type 0
+  Exact founds result files =
+      (all_calls planned.plan founds (steps planned.plan planned.seen)
+      ≡ calls_for planned.plan planned.seen (sources_in files (paths_of definitions.list)))
+      × IfErr (outcome_of result) (λ refusal. refusal.status ≢ exit.changed)
+
+  exact_is : {T : Type 0} (founds : List Found) (result : Result T ApplyFault) → Makes founds result
+      → IfSome (history disk) (λ h. IfSome sources.told (Exact founds result))
+  exact_is founds result makes = by disk.first sources.told makes long roots where
+    by : (o : Option (List ℕ)) (t : Option (List Stored))
+        → MakesSteps planned.plan (outside_of t (paths_of definitions.list) o) (steps planned.plan planned.seen) founds disk.calls
+        later.calls result
+        → IfSome (history_told o disk.calls) (λ h. length (shown h) ≡ 512 * planned.seen.sectors)
+        → IfSome (history_told o disk.calls) (λ h. IfSome t (λ files.
+        HavePlannedRoots planned.plan (sources_in files (paths_of definitions.list))))
+        → IfSome (history_told o disk.calls) (λ h. IfSome t (Exact founds result))
+    by None t m l r = tt
+    by (Some bytes) None m l r = tt
+    by (Some bytes) (Some files) m l r =
+        let from = sources_in files (paths_of definitions.list) in (
+          all_tied planned.plan (outside_of (Some files) (paths_of definitions.list) (Some bytes)) files bytes refl refl disk.calls founds
+              (steps planned.plan planned.seen) m.found_are
+              (laid planned.plan from planned.seen formed fit (shown (history_of bytes disk.calls)) l),
+          unchanged planned.plan from result
+              (changes_at planned.seen planned.plan formed fit (paths_of definitions.list) files bytes founds disk.calls later.calls result m l) r,
+        )
+
+  strays_are : IfSome (history disk) (λ h. length (shown h) ≡ 512 * planned.seen.sectors → later.strays ≡ disk.strays)
+      → IfSome (history disk) (λ h. later.strays ≡ disk.strays)
+  strays_are stays = by (history disk) long stays where
+    by : (o : Option History) → IfSome o (λ h. length (shown h) ≡ 512 * planned.seen.sectors)
+        → IfSome o (λ h. length (shown h) ≡ 512 * planned.seen.sectors → later.strays ≡ disk.strays)
+        → IfSome o (λ h. later.strays ≡ disk.strays)
+    by None l s = tt
+    by (Some h) l s = s l
+
+  pub carries : {T : Type 0} (result : Result T ApplyFault) (ready : Ready)
+      → IsReadyFor planned.plan planned.seen definitions.list ready → later.first ≡ disk.first → drained.told ≡ sources.told
+      → (founds : List Found) × MakesSteps ready.plan (outside_of sources.told ready.paths disk.first) ready.steps founds disk.calls later.calls result
+      → HasDiskCause disk.faults later.faults result → HasSourceCause sources.faults drained.faults result
+      → IfSome (history disk) (λ h. length (shown h) ≡ 512 * ready.seen.sectors → later.strays ≡ disk.strays)
+      → (calls : List Call) × CarriesOut definitions planned disk later sources drained calls (outcome_of result)
+  carries result ready is first told made of_disk of_sources strays =
+      let founds = made.0 in
+      let steps_are : ready.steps ≡ steps planned.plan planned.seen =
+      is.ready_is.steps ∙ ap (λ (p : Plan). steps p ready.seen) is.plan_is ∙ ap (λ (s : Seen). steps planned.plan s) is.seen_is in
+      let P : Plan → List (List ℕ) → List Step → Type 0 =
+      λ p paths l. MakesSteps p (outside_of sources.told paths disk.first) l founds disk.calls later.calls result in
+      let makes : Makes founds result =
+      subst (P planned.plan (paths_of definitions.list)) steps_are
+      (subst (λ (paths : List (List ℕ)). P planned.plan paths ready.steps) is.paths_are
+      (subst (λ (p : Plan). P p ready.paths ready.steps) is.plan_is made.1)) in
+      let like = are_calls_like planned.plan (outside_of sources.told (paths_of definitions.list) disk.first) planned.seen formed fit
+      disk.calls founds makes.found_are in (
+        all_calls planned.plan founds (steps planned.plan planned.seen),
+        record {
+          first = first;
+          told = told;
+          are = like.0;
+          exact = exact_is founds result makes;
+          ran = runs_as disk.calls later.calls (all_calls planned.plan founds (steps planned.plan planned.seen)) result makes.ran;
+          strays = strays_are (subst (λ (s : Seen). IfSome (history disk) (λ h. length (shown h) ≡ 512 * s.sectors → later.strays ≡ disk.strays))
+              is.seen_is strays);
+          refusal = refusal_is founds result makes;
+          cause = record {
+            of_disk = disk_cause disk.faults later.faults result of_disk;
+            of_sources = source_cause sources.faults drained.faults result of_sources;
+          };
+        },
+      )
