@@ -1,5 +1,6 @@
 -- From what a step is made of to the step.
 use Rattle.std.proofs.Common.{◌≡◌, ◌≢◌, ℕ, ◌≤◌, List, [], ◌∷◌, ◌++◌, Option, Some, None, Result, Ok, Err, refl, sym, ◌∙◌, append-nil}
+use Rattle.std.specs.Prelude.{IfSome}
 use Rattle.rp_base.specs.Faults.{HasCause}
 use Rattle.rp_base.specs.declared.faults.Failed.{Failed}
 use Rattle.rp_base.specs.declared.guid.Guid.{Guid}
@@ -57,6 +58,11 @@ pub tree_source_still : (count : ℕ) (answer : Result (Option (List ℕ)) Faile
 tree_source_still count (Ok None) planned = refl
 tree_source_still count (Ok (Some copied)) planned = refl
 tree_source_still count (Err failed) planned = refl
+
+-- a count that stood still
+pub still : {H : Type 0} (told : Option H) (P : H → Type 0) (count : ℕ) → IfSome told (λ h. P h → count ≡ count)
+still None P count = tt
+still (Some h) P count = λ p. refl
 
 -- a step that no source and no data row has a part in
 

@@ -1,5 +1,6 @@
 -- Steps that were made one after another.
-use Rattle.std.proofs.Common.{◌≡◌, ℕ, zero, suc, ◌+◌, ◌<◌, ◌⊎◌, inl, inr, List, [], ◌∷◌, ◌++◌, length, get_or, take, drop, Result, Ok, Err, refl, sym, ap, ◌∙◌, subst, arith, add-one, append_assoc, append-nil, drop-cons}
+use Rattle.std.proofs.Common.{◌≡◌, ℕ, ◌+◌, ◌<◌, ◌≤◌, inl, inr, List, [], ◌∷◌, ◌++◌, length, get_or, take, drop, Result, Ok, Err, refl, sym, ap, ◌∙◌, subst, arith, append_assoc, append-nil}
+use Rattle.std.proofs.lemmas.List.{drop_more, take-append-drop, take_all, take_more}
 use Rattle.rp_base.specs.declared.plan.Plan.{Plan}
 use Rattle.rp_disk.specs.Made.{Made, dones}
 use Rattle.rp_disk.specs.Runs.{BrokeOff}
@@ -14,18 +15,9 @@ use Rattle.rp_steps.specs.declared.step.Step.{Step}
 use Rattle.rp_step.proofs.Single.{some_found}
 
 -- a list at one of its places
-take_next : (steps : List Step) (i : ℕ) (d : Step) → i < length steps → take (i + 1) steps ≡ take i steps ++ get_or steps i d ∷ []
-take_next [] i d below = absurd (omega arith)
-take_next (step ∷ steps) zero d below = refl
-take_next (step ∷ steps) (suc i) d below = rw add-one (ap (λ (l : List Step). step ∷ l) (rw add-one at (take_next steps i d (omega arith))))
-
-pub drop_next : (steps : List Step) (i : ℕ) (d : Step) → i < length steps → drop i steps ≡ get_or steps i d ∷ drop (i + 1) steps
-drop_next steps i d below = rw add-one (drop-cons steps i d below)
-
 whole_at : (steps : List Step) (i : ℕ) (d : Step) → i < length steps → steps ≡ take i steps ++ get_or steps i d ∷ drop (i + 1) steps
-whole_at [] i d below = absurd (omega arith)
-whole_at (step ∷ steps) zero d below = refl
-whole_at (step ∷ steps) (suc i) d below = rw add-one (ap (λ (l : List Step). step ∷ l) (rw add-one at (whole_at steps i d (omega arith))))
+whole_at steps i d below =
+    sym (take-append-drop i steps) ∙ ap (λ (l : List Step). take i steps ++ l) (drop_more steps i d below)
 
 module _ (plan : Plan) (outside : Outside) where
   -- behind steps that were made, others
@@ -97,7 +89,7 @@ module _ (plan : Plan) (outside : Outside) where
 
   -- one step more
   so_far_more : {T : Type 0} (steps : List Step) (step : Step) (found : Found) (old mid now : List Made) (value : T) → AreSoFar steps old mid
-      → MakesStep plan outside step found mid now (Ok value) → AreSoFar (steps ++ step ∷ []) old now
+      → MakesStep {T = T} plan outside step found mid now (Ok value) → AreSoFar (steps ++ step ∷ []) old now
   so_far_more steps step found old mid now value so makes =
       let fs = so.0 in
       let is = so.1 in
@@ -115,9 +107,11 @@ module _ (plan : Plan) (outside : Outside) where
       )
 
   -- all steps
-  pub all_made : {T : Type 0} (steps : List Step) (old now : List Made) (value : T) → AreSoFar steps old now
-      → (founds : List Found) × MakesSteps plan outside steps founds old now (Ok value)
-  all_made steps old now value so =
+  pub all_made : {T : Type 0} (steps : List Step) (i : ℕ) (old now : List Made) (value : T) → length steps ≤ i → AreSoFar (take i steps) old now
+      → (founds : List Found) × MakesSteps {T = T} plan outside steps founds old now (Ok value)
+  all_made {T = T} steps i old now value past so =
+      let P : List Step → Type 0 = λ l. (founds : List Found) × MakesSteps {T = T} plan outside l founds old now (Ok value) in
+      subst P (take_all i steps past)
       (so.0, record { found_are = so.1.found_are; ran = record { ok = so.1.made; err = tt }; roots = so.1.roots; changed = tt })
 
   -- at a fault: what the steps behind would have found stands for itself
@@ -158,16 +152,16 @@ module _ (plan : Plan) (outside : Outside) where
 
   -- the same at a place of a list of steps
   pub so_far_at : {T : Type 0} (steps : List Step) (i : ℕ) (d : Step) (found : Found) (old mid now : List Made) (value : T) → i < length steps
-      → AreSoFar (take i steps) old mid → MakesStep plan outside (get_or steps i d) found mid now (Ok value) → AreSoFar (take (i + 1) steps) old now
+      → AreSoFar (take i steps) old mid → MakesStep {T = T} plan outside (get_or steps i d) found mid now (Ok value)
+      → AreSoFar (take (i + 1) steps) old now
   so_far_at steps i d found old mid now value below so makes =
-      subst (λ (l : List Step). AreSoFar l old now) (sym (take_next steps i d below))
+      subst (λ (l : List Step). AreSoFar l old now) (sym (take_more steps i d below))
       (so_far_more (take i steps) (get_or steps i d) found old mid now value so makes)
 
-  pub broken_there : {S T : Type 0} (steps : List Step) (i : ℕ) (d : Step) (found : Found) (old mid now : List Made) (fault : ApplyFault) (result : Result T ApplyFault)
-      → result ≡ Err fault → i < length steps → AreSoFar (take i steps) old mid → MakesStep {T = S} plan outside (get_or steps i d) found mid now (Err fault)
-      → (founds : List Found) × MakesSteps plan outside steps founds old now result
-  broken_there {S = S} {T = T} steps i d found old mid now fault result is below so makes =
-      let P : List Step → Result T ApplyFault → Type 0 = λ l r. (founds : List Found) × MakesSteps plan outside l founds old now r in
-      subst (λ (r : Result T ApplyFault). P steps r) (sym is)
-      (subst (λ (l : List Step). P l (Err fault)) (sym (whole_at steps i d below))
-      (broken_at {S = S} {T = T} (take i steps) (drop (i + 1) steps) (get_or steps i d) found old mid now fault so makes))
+  pub broken_there : {S T : Type 0} (steps : List Step) (i : ℕ) (d : Step) (found : Found) (old mid now : List Made) (fault : ApplyFault)
+      → i < length steps → AreSoFar (take i steps) old mid → MakesStep {T = S} plan outside (get_or steps i d) found mid now (Err fault)
+      → (founds : List Found) × MakesSteps {T = T} plan outside steps founds old now (Err fault)
+  broken_there {S = S} {T = T} steps i d found old mid now fault below so makes =
+      let P : List Step → Type 0 = λ l. (founds : List Found) × MakesSteps {T = T} plan outside l founds old now (Err fault) in
+      subst P (sym (whole_at steps i d below))
+      (broken_at {S = S} {T = T} (take i steps) (drop (i + 1) steps) (get_or steps i d) found old mid now fault so makes)

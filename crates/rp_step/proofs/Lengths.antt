@@ -1,6 +1,8 @@
 -- How many bytes a disk that tells has when a step is done.
-use Rattle.std.proofs.Common.{◌≡◌, ℕ, ◌+◌, ◌*◌, List, [], ◌∷◌, ◌++◌, length, replicate, Option, Some, None, refl, sym, ap, ◌∙◌, subst}
+use Rattle.std.proofs.Common.{◌≡◌, ℕ, ◌+◌, ◌*◌, ◌<◌, List, [], ◌∷◌, ◌++◌, length, get_or, drop, replicate, Option, Some, None, Ok, Err, All, refl, sym, ap, ◌∙◌, subst}
 use Rattle.std.specs.Prelude.{IfSome}
+use Rattle.std.proofs.lemmas.List.{drop_more}
+use Rattle.std.proofs.lemmas.List.Elements.{All-get_or}
 use Rattle.rp_base.specs.Image.{bytes_at}
 use Rattle.rp_base.specs.declared.geometry.Which.TheVariants.{Primary, Backup}
 use Rattle.rp_base.specs.declared.plan.Plan.{Plan}
@@ -25,8 +27,11 @@ use Rattle.rp_verity.specs.Order.{order}
 use Rattle.rp_verity.specs.Puts.{placed}
 use Rattle.rp_verity.specs.Superblock.{superblock}
 use Rattle.rp_verity.specs.Tree.{stored_tree}
-use Rattle.rp_step.specs.Found.{Found, LiesIn, calls_with, tree_of}
+use Rattle.rp_io.specs.declared.stored.Stored.{Stored}
+use Rattle.rp_step.specs.Found.{Found, HasFile, LiesIn, Outside, calls_with, tree_of}
+use Rattle.rp_step.specs.Made.{MakesStep}
 use Rattle.rp_step.specs.Run.{AllLieIn, size_after}
+use Rattle.rp_step.specs.declared.fault.ApplyFault.{ApplyFault}
 
 pieces-are : (at : ℕ) (bytes : List ℕ) → Each IsWrite (in_pieces at bytes)
 unfolding in_pieces
@@ -105,3 +110,31 @@ pub lie_broke : (plan : Plan) (first : Option (List ℕ)) (steps left : List Ste
 unfolding LieSoFar
 lie_broke plan None steps left step old mid before then strays so stays = tt
 lie_broke plan (Some bytes) steps left step old mid before then strays so stays = λ lies. let all = so lies in stays all.1.0 ∙ all.0
+
+-- the same at a place of a list of steps
+pub lie_at : {T : Type 0} (plan : Plan) (outside : Outside) (first : Option (List ℕ)) (found : Found) (steps : List Step) (i : ℕ) (d : Step)
+    (old mid now : List Made) (before then strays : ℕ) (value : T) → i < length steps → LieSoFar plan first steps (drop i steps) old mid before then
+    → MakesStep {T = T} plan outside (get_or steps i d) found mid now (Ok value) → IfSome (history_told first now) IsLawful
+    → IfSome (history_told first mid) (λ h. LiesIn plan (length (shown h)) (get_or steps i d) → strays ≡ then)
+    → LieSoFar plan first steps (drop (i + 1) steps) old now before strays
+lie_at plan outside first found steps i d old mid now before then strays value below so makes lawful stays =
+    lie_more plan first found steps (drop (i + 1) steps) (get_or steps i d) old mid now before then strays
+    (subst (λ (l : List Step). LieSoFar plan first steps l old mid before then) (drop_more steps i d below) so) makes.ran.ok lawful stays
+
+pub lie_broken_at : {T : Type 0} (plan : Plan) (outside : Outside) (first : Option (List ℕ)) (found : Found) (steps : List Step) (i : ℕ) (d : Step)
+    (old mid now : List Made) (before then strays : ℕ) (fault : ApplyFault) → i < length steps → LieSoFar plan first steps (drop i steps) old mid before then
+    → MakesStep {T = T} plan outside (get_or steps i d) found mid now (Err fault)
+    → IfSome (history_told first mid) (λ h. LiesIn plan (length (shown h)) (get_or steps i d) → strays ≡ then)
+    → IfSome (history_told first old) (λ h. AllLieIn plan (length (shown h)) steps → strays ≡ before)
+lie_broken_at plan outside first found steps i d old mid now before then strays fault below so makes stays =
+    lie_broke plan first steps (drop (i + 1) steps) (get_or steps i d) old mid before then strays
+    (subst (λ (l : List Step). LieSoFar plan first steps l old mid before then) (drop_more steps i d below) so) stays
+
+-- no call of the steps so far asked for what its source lacks, where all find their files; and one step more
+pub files_at : (told : Option (List Stored)) (paths : List (List ℕ)) (steps : List Step) (i : ℕ) (d : Step) (before then strays : ℕ) → i < length steps
+    → IfSome told (λ files. All (HasFile files paths) steps → then ≡ before)
+    → IfSome told (λ files. HasFile files paths (get_or steps i d) → strays ≡ then)
+    → IfSome told (λ files. All (HasFile files paths) steps → strays ≡ before)
+files_at None paths steps i d before then strays below so stays = tt
+files_at (Some files) paths steps i d before then strays below so stays = λ all.
+    stays (All-get_or (HasFile files paths) steps i d below all) ∙ so all

@@ -1,5 +1,5 @@
 pub mod Arms
-pub mod Copies
+pub mod HeldCopies
 pub mod Going
 pub mod Kept
 pub mod Lengths

@@ -1,7 +1,7 @@
 //! What the blocks hold.
 
 ghost use Rattle.std.specs.Prelude.{◌≡◌, ◌≤◌, length, take};
-ghost use Rattle.rp_base.specs.Geometry.{copy_bytes as copy_bytes_of};
+ghost use Rattle.rp_base.specs.Geometry.{IsSector, copy_bytes as copy_bytes_of};
 ghost use Rattle.rp_gpt.specs.Copy.{exact};
 ghost use Rattle.rp_stops.specs.Order.{target_sectors as target_sectors_of};
 ghost use Rattle.rp_step.specs.Stocked.{CanWrite, IsStocked};
@@ -24,7 +24,8 @@ pub fn copy_for<'a>(blocks: &'a Blocks, plan: &Plan, which: Which) -> &'a [u8]
 
 // The copy with which a run begins.
 fn copy_in<'a>(run: &'a [u8], plan: &Plan) -> &'a [u8]
-    requires { copy_bytes_of plan.now.goal.entries plan.now.goal.sector ≤ length run.now }
+    requires sector { IsSector plan.now.goal.sector }
+    requires room { copy_bytes_of plan.now.goal.entries plan.now.goal.sector ≤ length run.now }
     ensures { result.now ≡ take (copy_bytes_of plan.now.goal.entries plan.now.goal.sector) run.now }
 {
     run.split_at(copy_bytes(plan.goal.entries, plan.goal.sector))

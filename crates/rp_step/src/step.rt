@@ -70,7 +70,6 @@ pub fn make_step<D: Disk, S: Sources>(
 }
 
 // Makes the calls of a step that no source and no data row has a part in.
-#[tactic(auto, unfolding(crate::specs::Found::calls_with, rp_steps::specs::Calls::calls_of))]
 fn make_fixed<D: Disk>(
     disk: &mut D,
     plan: &Plan,

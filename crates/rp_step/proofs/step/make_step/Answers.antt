@@ -1,7 +1,6 @@
--- Draft: what the arms' goals are called is guessed.
 use Rattle.std.proofs.Common.{◌≡◌}
-use Rattle.rp_step.specs.Found.{outside_of}
-use Rattle.rp_step.proofs.Arms.{copy_made, disk_cause, fill_disk_cause, fill_source_cause, fixed_made, fixed_of, source_still, tree_disk_cause, tree_made, tree_source_still}
+use Rattle.rp_step.specs.Found.{HasFile, outside_of}
+use Rattle.rp_step.proofs.Arms.{copy_made, disk_cause, fill_disk_cause, fill_source_cause, fixed_made, fixed_of, source_still, still, tree_disk_cause, tree_made, tree_source_still}
 use Rattle.rp_step.proofs.Kept.{stocked_still}
 use Rattle.rp_step.proofs.step.make_step.Goals as goal
 
@@ -48,3 +47,12 @@ returns-in_default-clause-disk_cause g c = rw c.of_disk.ensures (disk_cause _ _ 
 
 pub returns-in_default-clause-source_cause : goal.returns-in_default-clause-source_cause
 returns-in_default-clause-source_cause g c = rw c.of_disk.ensures (source_still _ c.make_fixed.result)
+
+pub returns-in-Copy-clause-source_strays : goal.returns-in-Copy-clause-source_strays
+returns-in-Copy-clause-source_strays g c = rw c.in-Copy.is (rw c.path.ensures at c.copy.ensures.source_strays)
+
+pub returns-in-Tree-clause-source_strays : goal.returns-in-Tree-clause-source_strays
+returns-in-Tree-clause-source_strays g c = still _ (λ files. HasFile files c.args.paths.now c.args.step.now) _
+
+pub returns-in_default-clause-source_strays : goal.returns-in_default-clause-source_strays
+returns-in_default-clause-source_strays g c = still _ (λ files. HasFile files c.args.paths.now c.args.step.now) _
