@@ -1,5 +1,5 @@
 -- What a push leaves in the blocks that wait: none is refused.
-use Rattle.std.proofs.Common.{◌≡◌, ℕ, zero, suc, ◌+◌, ◌%◌, ◌<◌, ◌≤◌, List, [], ◌∷◌, ◌++◌, length, take, ◌∙◌, ap, ap₂, arith, Bool, true, false, cond, eqb, length-take}
+use Rattle.std.proofs.Common.{◌≡◌, ℕ, zero, suc, ◌+◌, ◌%◌, ◌<◌, ◌≤◌, List, [], ◌∷◌, ◌++◌, length, take, sym, ◌∙◌, ap, ap₂, append_assoc, arith, Bool, true, false, cond, eqb, length-take}
 use Rattle.std.specs.Prelude.{Some, Result, Ok, Err, IsErr}
 use Rattle.std.proofs.lemmas.List.{length-map}
 use Rattle.rp_base.specs.Faults.{Rose}
@@ -78,6 +78,17 @@ pub pushed_puts : (tree : TreePlan) (k blocks : ℕ) (taken all : List (List ℕ
 pushed_puts tree k blocks taken all before now same count none added =
     added_are before _ now none added
     ∙ ap₂ (λ (b r : ℕ). placed (stored_tree tree.salt all) (full_with (levels b) b (r + 1))) same count
+
+-- the same of a block that is pushed behind those taken, and of those that come still
+pub pushed_next : (tree : TreePlan) (k blocks : ℕ) (taken rest : List (List ℕ)) (block : List ℕ) (before now : List (ℕ × List ℕ))
+    → blocks ≡ tree.blocks → length taken ≡ k → before ≡ []
+    → (length ((taken ++ block ∷ []) ++ rest) ≡ blocks → Added (Some before)
+    (placed (stored_tree tree.salt ((taken ++ block ∷ []) ++ rest)) (full_with (levels blocks) blocks (length taken + 1))) (Some now))
+    → length (taken ++ block ∷ rest) ≡ tree.blocks → now ≡ full_puts tree (taken ++ block ∷ rest) (k + 1)
+pushed_next tree k blocks taken rest block before now same count none added all =
+    let whole : (taken ++ block ∷ []) ++ rest ≡ taken ++ block ∷ rest = append_assoc taken (block ∷ []) rest in
+    pushed_puts tree k blocks taken ((taken ++ block ∷ []) ++ rest) before now same count none
+    (added (ap length whole ∙ all ∙ sym same)) ∙ ap (λ (row : List (List ℕ)). full_puts tree row (k + 1)) whole
 
 pub finished_puts : (tree : TreePlan) (taken : List (List ℕ)) (before now : List (ℕ × List ℕ)) → length taken ≡ tree.blocks → before ≡ []
     → Added (Some before) (placed (stored_tree tree.salt taken) (left_over (levels (length taken)) (length taken))) (Some now)

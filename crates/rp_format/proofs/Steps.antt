@@ -1,10 +1,10 @@
 -- From data block to data block: what was taken and written so far.
-use Rattle.std.proofs.Common.{◌≡◌, ℕ, ◌+◌, ◌-◌, ◌*◌, ◌<◌, ◌≤◌, ◌⊎◌, inl, inr, List, [], ◌∷◌, ◌++◌, length, get_or, map, take, drop, replicate, refl, sym, ◌∙◌, ap, ap₂, subst, arith, append_assoc, append-nil, All, length-append}
+use Rattle.std.proofs.Common.{◌≡◌, ℕ, ◌+◌, ◌-◌, ◌*◌, ◌<◌, ◌≤◌, ◌⊎◌, inl, inr, List, [], ◌∷◌, ◌++◌, length, get_or, slice_index_or, map, take, drop, replicate, refl, sym, ◌∙◌, ap, ap₂, subst, arith, append_assoc, append-nil, All, length-append}
 use Rattle.std.specs.Prelude.{Option, Some, None, Result, Ok, Err, IfOk, IfSome, IsErr, OnOk, OnErr}
 use Rattle.std.specs.List.{range_with_len}
-use Rattle.std.proofs.lemmas.List.{drop-drop, drop-take, take-take, take_all, length-replicate}
+use Rattle.std.proofs.lemmas.List.{drop-drop, drop-take, get_or-map, take-take, take_all, length-replicate}
 use Rattle.std.proofs.lemmas.List.Elements.{All-append, All-cons, All-map, All-nil}
-use Rattle.std.proofs.lemmas.List.FromFn.{length-map-range_with_len, map-range_with_len_more}
+use Rattle.std.proofs.lemmas.List.FromFn.{get_or-map-range_with_len, length-map-range_with_len, map-range_with_len_more}
 use Rattle.rp_base.specs.Image.{bytes_at}
 use Rattle.rp_base.specs.Trees.{hash_blocks, levels}
 use Rattle.rp_base.specs.declared.faults.Failed.{Failed}
@@ -22,7 +22,7 @@ use Rattle.rp_verity.specs.declared.builder.Builder.{Builder}
 use Rattle.rp_verity.specs.Builder.{HasTaken}
 use Rattle.rp_verity.specs.Filled.{cut}
 use Rattle.rp_verity.specs.Order.{blocks_over}
-use Rattle.rp_verity.specs.Tree.{root_hash, stored_tree}
+use Rattle.rp_verity.specs.Tree.{digest, root_hash, stored_tree}
 use Rattle.rp_verity.proofs.LevelLemmas.{same_range as same_map}
 use Rattle.rp_verity.proofs.ShapeLemmas.{hash_blocks-over}
 use Rattle.rp_format.specs.Puts.{writes_of}
@@ -32,7 +32,7 @@ use Rattle.rp_format.specs.declared.tree.TreePlan.{TreePlan}
 use Rattle.rp_steps.proofs.Trees.{IsBlock}
 use Rattle.rp_format.proofs.Kept.{writes-are}
 use Rattle.rp_format.proofs.Places.{all-split, all-split-at, apart_placed, filled-inside, filled_by, length-tree, map-range-split, so_far-more, so_far_puts, tree_blocks}
-use Rattle.rp_format.proofs.Told.{SameLength, SameRange, same_length, same_range}
+use Rattle.rp_format.proofs.Told.{SameLength, SameRange, same_length, same_range, still_shown, told_so}
 
 -- the bytes of the data blocks that are shown
 abbrev pub row_bytes : TreePlan → List ℕ → List ℕ
@@ -94,11 +94,11 @@ writes_apart tree plan all k at size count few outside =
     elim outside [ inl low ↦ inl low | inr high ↦ inr (omega arith) ] in
     apart_placed at size tree.hash_at stored (filled_by tree.blocks k) (tree_blocks tree.salt all) inside reach
 
-block_outside : (tree : TreePlan) (plan : IsTreePlan tree) (k : ℕ) → k < tree.blocks
-    → (tree.data_at + 4096 * k + 4096 ≤ tree.hash_at) ⊎ (hash_end tree ≤ tree.data_at + 4096 * k)
-block_outside tree plan k below = elim plan.apart [ inl low ↦ inl (omega arith) | inr high ↦ inr (omega arith) ]
+blocks_outside : (tree : TreePlan) (plan : IsTreePlan tree) (k count : ℕ) → k + count ≤ tree.blocks
+    → (tree.data_at + 4096 * k + 4096 * count ≤ tree.hash_at) ⊎ (hash_end tree ≤ tree.data_at + 4096 * k)
+blocks_outside tree plan k count below = elim plan.apart [ inl low ↦ inl (omega arith) | inr high ↦ inr (omega arith) ]
 
--- so where the disk tells, its length and the next data block are as they were
+-- so where the disk tells, its length and the next data blocks are as they were
 pub length_so_far : (tree : TreePlan) (first : Option (List ℕ)) (old : List Made) (builder : Builder) (k : ℕ) (now : List Made)
     (taken : List (List ℕ)) → SoFar tree first old builder k now taken → k ≤ tree.blocks → IfSome (history_told first now) IsLawful
     → SameLength first old now
@@ -108,16 +108,17 @@ length_so_far tree first old builder k now taken so few lawful =
     same_length first old now (writes_of tree.hash_at puts) (so.calls rest (fill_up tree k taken so.count few))
     (writes-are tree.hash_at puts) lawful
 
-range_so_far : (tree : TreePlan) (plan : IsTreePlan tree) (first : Option (List ℕ)) (old : List Made) (builder : Builder) (k : ℕ)
-    (now : List Made)
-    (taken : List (List ℕ)) → SoFar tree first old builder k now taken → k < tree.blocks → IfSome (history_told first now) IsLawful
-    → SameRange (tree.data_at + 4096 * k) 4096 first old now
-range_so_far tree plan first old builder k now taken so below lawful =
+range_so_far : (tree : TreePlan) (plan : IsTreePlan tree) (first : Option (List ℕ)) (old : List Made) (builder : Builder) (k count : ℕ)
+    (now : List Made) (taken : List (List ℕ)) → SoFar tree first old builder k now taken → k + count ≤ tree.blocks
+    → IfSome (history_told first now) IsLawful → SameRange (tree.data_at + 4096 * k) (4096 * count) first old now
+range_so_far tree plan first old builder k count now taken so below lawful =
     let rest : List (List ℕ) = replicate (tree.blocks - k) [] in
     let all : length (taken ++ rest) ≡ tree.blocks = fill_up tree k taken so.count (omega arith) in
     let puts = so_far_puts tree (taken ++ rest) k in
-    same_range (tree.data_at + 4096 * k) 4096 first old now (writes_of tree.hash_at puts) (so.calls rest all) (writes-are tree.hash_at puts)
-    (writes_apart tree plan (taken ++ rest) k (tree.data_at + 4096 * k) 4096 all (omega arith) (block_outside tree plan k below)) lawful
+    same_range (tree.data_at + 4096 * k) (4096 * count) first old now (writes_of tree.hash_at puts) (so.calls rest all)
+    (writes-are tree.hash_at puts)
+    (writes_apart tree plan (taken ++ rest) k (tree.data_at + 4096 * k) (4096 * count) all (omega arith)
+    (blocks_outside tree plan k count below)) lawful
 
 -- a part of a part
 bytes_within : (image : List ℕ) (at m a n : ℕ) → a + n ≤ m → bytes_at (bytes_at image at m) a n ≡ bytes_at image (at + a) n
@@ -132,49 +133,88 @@ bytes_within image at m a n inside =
     ∙ ap (take n) (drop-drop a at image)
     ∙ sym (bytes_at-take image (at + a) n)
 
--- the data block that was read is the next one of the row
-next_shown : (tree : TreePlan) (bytes : List ℕ) (old now : List Made) (k : ℕ) (block : List ℕ) → k < tree.blocks
-    → length (shown (history_of bytes now)) ≡ length (shown (history_of bytes old))
-    → (tree.data_at + 4096 * k + 4096 ≤ length (shown (history_of bytes old))
-    → bytes_at (shown (history_of bytes now)) (tree.data_at + 4096 * k) 4096 ≡ bytes_at (shown (history_of bytes old))
-    (tree.data_at + 4096 * k) 4096)
-    → (tree.data_at + 4096 * (k + 1) ≤ length (shown (history_of bytes now))
-    → block ≡ bytes_at (shown (history_of bytes now)) (tree.data_at + 4096 * k) 4096)
-    → tree.data_at + 4096 * (k + 1) ≤ length (shown (history_of bytes old))
-    → block ≡ bytes_at (row_bytes tree (shown (history_of bytes old))) (4096 * k) 4096
-next_shown tree bytes old now k block below same range read fits =
-    read (omega arith) ∙ range (omega arith)
-    ∙ sym (bytes_within (shown (history_of bytes old)) tree.data_at (4096 * tree.blocks) (4096 * k) 4096 (omega arith))
+-- data blocks that were read when so many were taken: they are still as at first
+pub run_shown : (tree : TreePlan) (plan : IsTreePlan tree) (first : Option (List ℕ)) (old : List Made) (builder : Builder) (k count : ℕ)
+    (now : List Made) (taken : List (List ℕ)) (run : List ℕ) → SoFar tree first old builder k now taken → k + count ≤ tree.blocks
+    → IfSome (history_told first now) IsLawful
+    → IfSome (history_told first now) (λ h. tree.data_at + 4096 * k + 4096 * count ≤ length (shown h))
+    → IfSome (history_told first now) (λ h. run ≡ bytes_at (shown h) (tree.data_at + 4096 * k) (4096 * count))
+    → IfSome (history_told first old) (λ h. run ≡ bytes_at (shown h) (tree.data_at + 4096 * k) (4096 * count))
+run_shown tree plan first old builder k count now taken run so below lawful reaches read =
+    still_shown (tree.data_at + 4096 * k) (4096 * count) first old now run
+    (length_so_far tree first old builder k now taken so (omega arith) lawful)
+    (range_so_far tree plan first old builder k count now taken so below lawful) reaches read
 
-more_shown : (tree : TreePlan) (first : Option (List ℕ)) (old now : List Made) (k : ℕ) (taken : List (List ℕ)) (block : List ℕ)
-    → k < tree.blocks
-    → SameLength first old now → SameRange (tree.data_at + 4096 * k) 4096 first old now → IsBlockAt tree k first now block
+-- one of them is the data block of its number
+pub run_block : (tree : TreePlan) (first : Option (List ℕ)) (old : List Made) (k count i : ℕ) (run : List ℕ) → length run ≡ 4096 * count
+    → i < count → IfSome (history_told first old) (λ h. run ≡ bytes_at (shown h) (tree.data_at + 4096 * k) (4096 * count))
+    → IsBlockAt tree (k + i) first old (bytes_at run (4096 * i) 4096)
+run_block tree None old k count i run long below is = record { size = length-bytes_at run (4096 * i) 4096 (omega arith); shown = tt }
+run_block tree (Some bytes) old k count i run long below is = record {
+  size = length-bytes_at run (4096 * i) 4096 (omega arith);
+  shown = λ fits.
+      let image : List ℕ = shown (history_of bytes old) in
+      let place : tree.data_at + 4096 * k + 4096 * i ≡ tree.data_at + 4096 * (k + i) = omega arith in
+      ap (λ (l : List ℕ). bytes_at l (4096 * i) 4096) is
+      ∙ bytes_within image (tree.data_at + 4096 * k) (4096 * count) (4096 * i) 4096 (omega arith)
+      ∙ ap (λ (at : ℕ). bytes_at image at 4096) place;
+}
+
+-- the data blocks with these digests, from that of this number on
+abbrev pub AreRead : TreePlan → ℕ → ℕ → Option (List ℕ) → List Made → List (List ℕ) → Type 0
+AreRead tree k count first old digests =
+    (i : ℕ) → i < count → (block : List ℕ) × (slice_index_or digests i [] ≡ digest tree.salt block) × IsBlockAt tree (k + i) first old block
+
+pub run_read : (tree : TreePlan) (plan : IsTreePlan tree) (first : Option (List ℕ)) (old : List Made) (builder : Builder) (k count n : ℕ)
+    (now : List Made) (taken : List (List ℕ)) (run : List ℕ) (digests : List (List ℕ)) → SoFar tree first old builder k now taken
+    → k + count ≤ tree.blocks → n ≡ 4096 * count → length run ≡ n → IfSome (history_told first now) IsLawful
+    → IfSome (history_told first now) (λ h. tree.data_at + 4096 * k + n ≤ length (shown h))
+    → IfSome (history_told first now) (λ h. run ≡ bytes_at (shown h) (tree.data_at + 4096 * k) n)
+    → digests ≡ map (digest tree.salt) (cut count run) → AreRead tree k count first old digests
+run_read tree plan first old builder k count n now taken run digests so below size long lawful reaches read are i inside =
+    let block : List ℕ = bytes_at run (4096 * i) 4096 in
+    let all : length (cut count run) ≡ count = length-map-range_with_len (λ j. bytes_at run (4096 * j) 4096) 0 count in
+    let one : slice_index_or (cut count run) i [] ≡ block =
+    get_or-map-range_with_len (λ j. bytes_at run (4096 * j) 4096) 0 count i i [] inside (omega arith) in
+    let here : slice_index_or digests i [] ≡ digest tree.salt block =
+    ap (λ (ds : List (List ℕ)). slice_index_or ds i []) are ∙ get_or-map (digest tree.salt) (cut count run) i [] [] (omega arith)
+    ∙ ap (digest tree.salt) one in (
+      block,
+      here,
+      run_block tree first old k count i run (long ∙ size) inside
+          (run_shown tree plan first old builder k count now taken run so below lawful (rw size at reaches) (rw size at read)),
+    )
+
+-- the data block is the next one of the row
+next_shown : (tree : TreePlan) (image : List ℕ) (k : ℕ) (block : List ℕ) → k < tree.blocks
+    → block ≡ bytes_at image (tree.data_at + 4096 * k) 4096 → block ≡ bytes_at (row_bytes tree image) (4096 * k) 4096
+next_shown tree image k block below is = is ∙ sym (bytes_within image tree.data_at (4096 * tree.blocks) (4096 * k) 4096 (omega arith))
+
+more_shown : (tree : TreePlan) (first : Option (List ℕ)) (old : List Made) (k : ℕ) (taken : List (List ℕ)) (block : List ℕ)
+    → k < tree.blocks → IsBlockAt tree k first old block
     → IfSome first (λ bytes. tree.data_at + 4096 * k ≤ length (shown (history_of bytes old))
     → taken ≡ cut k (row_bytes tree (shown (history_of bytes old))))
     → IfSome first (λ bytes. tree.data_at + 4096 * (k + 1) ≤ length (shown (history_of bytes old))
     → taken ++ block ∷ [] ≡ cut (k + 1) (row_bytes tree (shown (history_of bytes old))))
-unfolding SameLength SameRange
-more_shown tree None old now k taken block below same range is so = tt
-more_shown tree (Some bytes) old now k taken block below same range is so = λ fits.
-    let row : List ℕ = row_bytes tree (shown (history_of bytes old)) in
+more_shown tree None old k taken block below is so = tt
+more_shown tree (Some bytes) old k taken block below is so = λ fits.
+    let image : List ℕ = shown (history_of bytes old) in
+    let row : List ℕ = row_bytes tree image in
     let before : taken ≡ cut k row = so (omega arith) in
-    let here : block ≡ bytes_at row (4096 * k) 4096 = next_shown tree bytes old now k block below same range is.shown fits in
+    let here : block ≡ bytes_at row (4096 * k) 4096 = next_shown tree image k block below (is.shown fits) in
     ap₂ (λ (l : List (List ℕ)) (b : List ℕ). l ++ b ∷ []) before here
     ∙ sym (map-range_with_len_more (λ j. bytes_at row (4096 * j) 4096) 0 k k (omega arith))
 
 -- one data block more
-pub so_far_more : {T E : Type 0} (x : T) (tree : TreePlan) (plan : IsTreePlan tree) (first : Option (List ℕ)) (old : List Made)
-    (builder after : Builder)
+pub so_far_more : {T E : Type 0} (x : T) (tree : TreePlan) (first : Option (List ℕ)) (old : List Made) (builder after : Builder)
     (k : ℕ) (mid new : List Made) (taken : List (List ℕ)) (block : List ℕ) → SoFar tree first old builder k mid taken → k < tree.blocks
-    → IfSome (history_told first mid) IsLawful → IsBlockAt tree k first mid block
-    → TakesBlock {T = T} {E = E} tree k builder after mid new block (Ok x)
+    → IsBlockAt tree k first old block → TakesBlock {T = T} {E = E} tree k builder after mid new block (Ok x)
     → SoFar tree first old after (k + 1) new (taken ++ block ∷ [])
-so_far_more x tree plan first old builder after k mid new taken block so below lawful is takes = record {
+so_far_more x tree first old builder after k mid new taken block so below is takes = record {
   has = takes.taken taken so.has;
   count = omega (arith, length-append taken (block ∷ []), so.count);
   whole = All-append IsBlock taken (block ∷ []) so.whole (All-cons IsBlock block [] is.size (All-nil IsBlock));
-  shown = more_shown tree first old mid k taken block below (length_so_far tree first old builder k mid taken so (omega arith) lawful)
-      (range_so_far tree plan first old builder k mid taken so below lawful) is so.shown;
+  shown = more_shown tree first old k taken block below is so.shown;
   calls = λ rest all.
       let e : (taken ++ block ∷ []) ++ rest ≡ taken ++ block ∷ rest = append_assoc taken (block ∷ []) rest in
       let whole : length (taken ++ block ∷ rest) ≡ tree.blocks = sym (ap length e) ∙ all in
@@ -204,14 +244,6 @@ some_block tree k (Some bytes) made =
             λ fits. resized_same piece 4096 (length-bytes_at (shown (history_of bytes made)) (tree.data_at + 4096 * k) 4096 (omega arith));
       },
     )
-
--- one that was read
-pub block_read : (tree : TreePlan) (k : ℕ) (first : Option (List ℕ)) (made : List Made) (block : List ℕ) (n : ℕ) → length block ≡ 4096
-    → n ≡ 4096
-    → IfSome (history_told first made) (λ h. block ≡ bytes_at (shown h) (tree.data_at + 4096 * k) n) → IsBlockAt tree k first made block
-block_read tree k None made block n size is read = record { size = size; shown = tt }
-block_read tree k (Some bytes) made block n size is read =
-    record { size = size; shown = λ fits. read ∙ ap (λ (m : ℕ). bytes_at (shown (history_of bytes made)) (tree.data_at + 4096 * k) m) is }
 
 -- those that come still, where a disk tells
 unfoldable rest_blocks : TreePlan → ℕ → List ℕ → List (List ℕ)
@@ -274,19 +306,16 @@ row_of tree (Some bytes) old k front below count whole is =
     )
 
 -- it broke off at a data block: the data blocks with those that come still
-pub so_far_broke : {T E : Type 0} (e : E) (tree : TreePlan) (plan : IsTreePlan tree) (first : Option (List ℕ)) (old : List Made)
-    (builder after : Builder)
+pub so_far_broke : {T E : Type 0} (e : E) (tree : TreePlan) (first : Option (List ℕ)) (old : List Made) (builder after : Builder)
     (k : ℕ) (mid new : List Made) (taken : List (List ℕ)) (block : List ℕ) → SoFar tree first old builder k mid taken → k < tree.blocks
-    → IfSome (history_told first mid) IsLawful → IsBlockAt tree k first mid block
-    → TakesBlock {T = T} {E = E} tree k builder after mid new block (Err e)
+    → IsBlockAt tree k first old block → TakesBlock {T = T} {E = E} tree k builder after mid new block (Err e)
     → (all : List (List ℕ)) × AreBlocks tree.blocks all × AreShown tree first old all × MadeFirst old (hash_calls tree all) new
-so_far_broke e tree plan first old builder after k mid new taken block so below lawful is takes =
+so_far_broke e tree first old builder after k mid new taken block so below is takes =
     let front : List (List ℕ) = taken ++ block ∷ [] in
     let found = row_of tree first old k front below
     (omega (arith, length-append taken (block ∷ []), so.count))
     (All-append IsBlock taken (block ∷ []) so.whole (All-cons IsBlock block [] is.size (All-nil IsBlock)))
-    (more_shown tree first old mid k taken block below (length_so_far tree first old builder k mid taken so (omega arith) lawful)
-    (range_so_far tree plan first old builder k mid taken so below lawful) is so.shown) in
+    (more_shown tree first old k taken block below is so.shown) in
     let rest : List (List ℕ) = found.0 in
     let one : front ++ rest ≡ taken ++ block ∷ rest = append_assoc taken (block ∷ []) rest in
     let count : length (taken ++ block ∷ rest) ≡ tree.blocks = sym (ap length one) ∙ found.1.count in
@@ -296,6 +325,18 @@ so_far_broke e tree plan first old builder after k mid new taken block so below 
     (writes_of tree.hash_at (full_puts tree (taken ++ block ∷ rest) (k + 1))) split.0 (hash_calls tree (taken ++ block ∷ rest))
     (so.calls (block ∷ rest) count) (takes.failed taken rest so.has count) split.1 in
     (front ++ rest, found.1, found.2, subst (λ (l : List (List ℕ)). MadeFirst old (hash_calls tree l) new) (sym one) made)
+
+-- it broke off before the next data block was taken
+pub so_far_stopped : (tree : TreePlan) (first : Option (List ℕ)) (old : List Made) (builder : Builder) (k : ℕ) (mid new : List Made)
+    (taken : List (List ℕ)) → SoFar tree first old builder k mid taken → k < tree.blocks → new ≡ mid
+    → (all : List (List ℕ)) × AreBlocks tree.blocks all × AreShown tree first old all × MadeFirst old (hash_calls tree all) new
+so_far_stopped tree first old builder k mid new taken so below same =
+    let found = some_block tree k first old in
+    so_far_broke {T = ℕ} {E = ℕ} 0 tree first old builder builder k mid new taken found.0 so below found.1 (record {
+      taken = λ all has. tt;
+      done = λ all rest has count. tt;
+      failed = λ all rest has count. ([], tt, same ∙ sym (append-nil mid));
+    })
 
 -- all were taken
 pub so_far_blocks : (tree : TreePlan) (first : Option (List ℕ)) (old : List Made) (builder : Builder) (now : List Made)
@@ -340,10 +381,17 @@ reaches_none tree None old = tt
 reaches_none tree (Some bytes) old = λ some. absurd (omega arith)
 
 pub reaches_more : (tree : TreePlan) (k : ℕ) (first : Option (List ℕ)) (old mid : List Made) → SameLength first old mid
-    → IfSome (history_told first mid) (λ h. tree.data_at + 4096 * (k + 1) ≤ length (shown h)) → Reaches tree (k + 1) first old
+    → IfSome (history_told first mid) (λ h. tree.data_at + 4096 * k ≤ length (shown h)) → Reaches tree k first old
 unfolding Reaches SameLength
 reaches_more tree k None old mid same range = tt
 reaches_more tree k (Some bytes) old mid same range = λ some. omega arith
+
+-- it has those that were read
+pub reaches_run : (tree : TreePlan) (k count n m : ℕ) (first : Option (List ℕ)) (old mid : List Made) → SameLength first old mid
+    → n ≡ 4096 * count → m ≡ k + count → IfSome (history_told first mid) (λ h. tree.data_at + 4096 * k + n ≤ length (shown h))
+    → Reaches tree m first old
+reaches_run tree k count n m first old mid same size all range =
+    reaches_more tree m first old mid same (told_so (history_told first mid) _ _ (λ h fits. omega arith) range)
 
 pub reaches_all : (tree : TreePlan) (first : Option (List ℕ)) (old : List Made) → 1 ≤ tree.blocks → Reaches tree tree.blocks first old
     → IfSome (history_told first old) (λ h. data_end tree ≤ length (shown h))

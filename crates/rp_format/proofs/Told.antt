@@ -72,6 +72,15 @@ same_range at size (Some bytes) old new calls so writes apart lawful = λ fits.
     ∙ bytes_at-all_done at size calls (shown (history_of bytes old)) (length (shown (history_of bytes old))) refl fits
     (inside_told bytes old new calls so writes lawful) apart
 
+-- bytes that are read of such a range are as they were
+pub still_shown : (at size : ℕ) (first : Option (List ℕ)) (old new : List Made) (read : List ℕ) → SameLength first old new
+    → SameRange at size first old new → IfSome (history_told first new) (λ h. at + size ≤ length (shown h))
+    → IfSome (history_told first new) (λ h. read ≡ bytes_at (shown h) at size)
+    → IfSome (history_told first old) (λ h. read ≡ bytes_at (shown h) at size)
+unfolding SameLength SameRange
+still_shown at size None old new read same range reaches is = tt
+still_shown at size (Some bytes) old new read same range reaches is = is ∙ range (omega arith)
+
 -- where a disk tells, the count of its stray calls stays if its length is one of these
 unfoldable pub Stays : (ℕ → Type 0) → Option (List ℕ) → List Made → ℕ → ℕ → Type 0
 Stays P first made old new = IfSome (history_told first made) (λ h. P (length (shown h)) → new ≡ old)

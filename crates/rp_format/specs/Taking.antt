@@ -44,10 +44,6 @@ pub record TakesBlock {T E : Type 0} (tree : TreePlan) (k : ℕ) (old after : Bu
   pub failed : (taken rest : List (List ℕ)) → HasTaken old tree.salt taken → length (taken ++ block ∷ rest) ≡ tree.blocks
       → OnErr result (MadeFirst made (writes_of tree.hash_at (full_puts tree (taken ++ block ∷ rest) (k + 1))) now)
 
-abbrev pub TakesNext : {T E : Type 0} → TreePlan → ℕ → Builder → Builder → Option (List ℕ) → List Made → List Made → Result T E → Type 0
-TakesNext tree k old after first made now result =
-    (block : List ℕ) × IsBlockAt tree k first made block × TakesBlock tree k old after made now block result
-
 -- the hash blocks of a tree were written, and its root hash is answered
 pub record WritesHashes (tree : TreePlan) (taken : List (List ℕ)) (old new : List Made) (result : Result (List ℕ) Failed) : Type 0 where
   pub done : OnOk result (new ≡ old ++ dones (hash_calls tree taken))

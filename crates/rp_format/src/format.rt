@@ -1,15 +1,17 @@
 //! Writing a tree block by block.
 
-ghost use Rattle.std.specs.Prelude.{◌≡◌, ◌+◌, ◌*◌, ◌<◌, ◌≤◌, ◌++◌, ℕ, List, IfSome, IfOk, OnOk, OnErr, length};
+ghost use Rattle.std.specs.Prelude.{◌≡◌, ◌+◌, ◌*◌, ◌<◌, ◌≤◌, ◌++◌, ℕ, List, IfSome, IfOk, OnOk, OnErr, length, map};
 ghost use Rattle.rp_base.specs.Faults.{HasCause};
+ghost use Rattle.rp_base.specs.Image.{bytes_at};
 ghost use Rattle.rp_base.specs.Trees.{levels};
 ghost use Rattle.rp_disk.specs.History.{shown};
 ghost use Rattle.rp_disk.specs.Made.{dones, history_told};
 ghost use Rattle.rp_disk.specs.Runs.{MadeFirst};
 ghost use Rattle.rp_verity.specs.Builder.{HasTaken};
-ghost use Rattle.rp_verity.specs.Tree.{root_hash};
+ghost use Rattle.rp_verity.specs.Filled.{cut};
+ghost use Rattle.rp_verity.specs.Tree.{digest as digest_of, root_hash};
 ghost use Rattle.rp_format.specs.Puts.{writes_of};
-ghost use Rattle.rp_format.specs.Taking.{IsAt, TakesNext, WritesAll, left_puts};
+ghost use Rattle.rp_format.specs.Taking.{IsAt, TakesBlock, WritesAll, left_puts};
 ghost use Rattle.rp_format.specs.Waiting.{IsEmpty};
 ghost use Rattle.rp_format.specs.Written.{IsTreePlan, LieIn, WritesTree, data_end};
 
@@ -17,7 +19,11 @@ use crate::TreePlan;
 use crate::waiting::Waiting;
 use rp_base::Failed;
 use rp_disk::Disk;
-use rp_verity::{BLOCK, Builder, write_superblock};
+use rp_lanes::digest_blocks;
+use rp_verity::{BLOCK, Builder, DIGEST, write_superblock};
+
+/// Data blocks that are read and hashed at once.
+const RUN: usize = 4;
 
 /// Reads the data blocks, writes each hash block behind the superblock's block as it becomes full, and then the
 /// superblock, if the root hash is the planned one; the answer is a root hash that is another. The room has a block of
@@ -45,7 +51,7 @@ pub fn write_tree<D: Disk>(
     Ok(None)
 }
 
-// Reads the data blocks and writes the hash blocks. The answer is the root hash.
+// Reads the data blocks, some at once, and writes the hash blocks. The answer is the root hash.
 fn write_hashes<D: Disk>(disk: &mut D, tree: &TreePlan, room: &mut [u8]) -> Result<[u8; 32], Failed>
     requires plan { IsTreePlan tree.now }
     requires room { 4096 * (levels tree.now.blocks + 1) ≤ length room.old }
@@ -57,17 +63,53 @@ fn write_hashes<D: Disk>(disk: &mut D, tree: &TreePlan, room: &mut [u8]) -> Resu
 {
     let mut waiting = Waiting::new();
     let mut builder = Builder::new(tree.blocks, &tree.salt, room);
-    for k in 0..tree.blocks {
-        take_block(disk, tree, k, &mut builder, &mut waiting)?;
+    let mut buffer = [0; RUN * BLOCK];
+    let mut hashed = [[0; DIGEST]; RUN];
+    'runs: for turn in 0..(tree.blocks + (RUN as u64 - 1)) / RUN as u64 {
+        let k = RUN as u64 * turn;
+        let count = (tree.blocks - k).min(RUN as u64) as usize;
+        let run = &mut buffer[..BLOCK * count];
+        let digests = &mut hashed[..count];
+        read_run(disk, tree, k, run, digests)?;
+        'each: for i in 0..count {
+            take_block(disk, tree, k + i as u64, digests[i], &mut builder, &mut waiting)?;
+        }
     }
     finish(disk, tree, builder, &mut waiting)
 }
 
-// Reads the data block of this number, and writes the hash blocks that are full with it.
+// Reads data blocks, from that of this number on, and hashes each.
+fn read_run<D: Disk>(
+    disk: &mut D,
+    tree: &TreePlan,
+    k: u64,
+    run: &mut [u8],
+    digests: &mut [[u8; DIGEST]],
+) -> Result<(), Failed>
+    requires plan { IsTreePlan tree.now }
+    requires more { k + length digests.old ≤ tree.now.blocks }
+    requires run { length run.old ≡ 4096 * length digests.old }
+    ensures first { D.first disk.new ≡ D.first disk.old }
+    ensures calls { D.calls disk.new ≡ D.calls disk.old }
+    ensures range { IfSome (history_told (D.first disk.old) (D.calls disk.old)) (λ h.
+        OnOk result (tree.now.data_at + 4096 * k + length run.old ≤ length (shown h))) }
+    ensures bytes { IfSome (history_told (D.first disk.old) (D.calls disk.old)) (λ h.
+        OnOk result (run.new ≡ bytes_at (shown h) (tree.now.data_at + 4096 * k) (length run.old))) }
+    ensures digests { OnOk result (digests.new ≡ map (digest_of tree.now.salt) (cut (length digests.old) run.new)) }
+    ensures strays { IfSome (history_told (D.first disk.old) (D.calls disk.old)) (λ h. LieIn tree.now (length (shown h)) → D.strays disk.new ≡ D.strays disk.old) }
+    ensures cause { HasCause (D.faults disk.old) (D.faults disk.new) result }
+{
+    disk.read(tree.data_at + BLOCK as u64 * k, run)?;
+    digest_blocks(&tree.salt, run, BLOCK, digests);
+    Ok(())
+}
+
+// Takes the data block of this number by its digest, and writes the hash blocks that are full with it.
 fn take_block<D: Disk>(
     disk: &mut D,
     tree: &TreePlan,
     k: u64,
+    digest: [u8; DIGEST],
     builder: &mut Builder<'_>,
     waiting: &mut Waiting,
 ) -> Result<(), Failed>
@@ -75,17 +117,17 @@ fn take_block<D: Disk>(
     requires more { k < tree.now.blocks }
     requires builder { IsAt tree.now k builder.old }
     requires taken { (taken : List (List ℕ)) × HasTaken builder.old tree.now.salt taken }
+    requires block { (block : List ℕ) × (digest ≡ digest_of tree.now.salt block) }
     requires waiting { IsEmpty waiting.old }
     ensures builder { OnOk result (IsAt tree.now (k + 1) builder.new) }
     ensures waiting { OnOk result (IsEmpty waiting.new) }
     ensures first { D.first disk.new ≡ D.first disk.old }
-    ensures takes { TakesNext tree.now k builder.old builder.new (D.first disk.old) (D.calls disk.old) (D.calls disk.new) result }
-    ensures range { IfSome (history_told (D.first disk.old) (D.calls disk.old)) (λ h. OnOk result (tree.now.data_at + 4096 * (k + 1) ≤ length (shown h))) }
+    ensures takes { (block : List ℕ) → digest ≡ digest_of tree.now.salt block
+        → TakesBlock tree.now k builder.old builder.new (D.calls disk.old) (D.calls disk.new) block result }
     ensures strays { IfSome (history_told (D.first disk.old) (D.calls disk.old)) (λ h. LieIn tree.now (length (shown h)) → D.strays disk.new ≡ D.strays disk.old) }
     ensures cause { HasCause (D.faults disk.old) (D.faults disk.new) result }
 {
-    disk.read(tree.data_at + BLOCK as u64 * k, builder.block_mut())?;
-    builder.push(waiting)?;
+    builder.push_digest(digest, waiting)?;
     waiting.write_to(disk, tree.hash_at)?;
     waiting.clear();
     Ok(())

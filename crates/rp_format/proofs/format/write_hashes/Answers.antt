@@ -1,112 +1,216 @@
--- All data blocks are taken in turn.
-use Rattle.std.proofs.Common.{◌≡◌, ℕ, ◌≤◌, List, [], ◌∷◌, ◌++◌, refl, ◌∙◌, subst, arith}
+-- All data blocks are taken in turn, some of them read at once.
+use Rattle.std.proofs.Common.{◌≡◌, ℕ, ◌+◌, ◌-◌, ◌*◌, ◌<◌, ◌≤◌, List, [], ◌∷◌, ◌++◌, length, length-take-le, min, take, refl, ◌∙◌, arith}
 use Rattle.std.specs.Prelude.{IfSome}
 use Rattle.rp_disk.specs.History.{IsLawful}
 use Rattle.rp_disk.specs.Made.{history_told}
-use Rattle.rp_format.specs.Taking.{IsAt, IsBlockAt}
+use Rattle.rp_format.specs.Taking.{IsAt}
 use Rattle.rp_format.specs.Written.{LieIn}
 use Rattle.rp_format.specs.declared.tree.TreePlan.{TreePlan}
-use Rattle.rp_format.proofs.Steps.{Reaches, SoFar, length_so_far, reaches_all, reaches_more, reaches_none, so_far_blocks, so_far_broke, so_far_more, so_far_none, so_far_shown, writes_err, writes_hashes, on_ok}
+use Rattle.rp_format.proofs.Steps.{Reaches, SoFar, length_so_far, on_ok, reaches_all, reaches_none, reaches_run, run_read, so_far_blocks, so_far_broke, so_far_more, so_far_none, so_far_shown, so_far_stopped, writes_err, writes_hashes}
 use Rattle.rp_format.proofs.Told.{SameLength, stays_more, stays_none, stays_of, stays_says, told_so}
 use Rattle.rp_format.proofs.format.write_hashes.Goals as goal
 
-pub loop-k-init : goal.loop-k-init
-loop-k-init g c = record {
-  builder = record { sound = c.new-builder.ensures.builder; blocks = c.new-builder.ensures.blocks; pushed = c.new-builder.ensures.pushed };
-  waiting = c.new-waiting.ensures;
-  first = refl;
-  faults = refl;
-  strays = stays_none _ _ _ _;
-  reaches = reaches_none _ _ _;
-  so_far = ([], so_far_none _ _ _ _ c.new-builder.ensures.taken);
-}
+pub runs-init : goal.runs-init
+runs-init g c =
+    let none : min 0 c.args.tree.now.blocks ≡ 0 = omega arith in
+    let at : IsAt c.args.tree.now 0 c.new-builder.result =
+    record { sound = c.new-builder.ensures.builder; blocks = c.new-builder.ensures.blocks; pushed = c.new-builder.ensures.pushed } in
+    record {
+      builder = rw none at;
+      waiting = c.new-waiting.ensures;
+      first = refl;
+      faults = refl;
+      strays = stays_none _ _ _ _;
+      reaches = rw none (reaches_none _ _ _);
+      so_far = ([], rw none (so_far_none _ _ _ _ c.new-builder.ensures.taken));
+    }
+
+pub returns-in_err-read_run-clause-written : goal.returns-in_err-read_run-clause-written
+returns-in_err-read_run-clause-written g c =
+    let tree : TreePlan = c.args.tree.now in
+    let k : ℕ = 4 * c.runs.turn in
+    let below : k < tree.blocks = omega (arith, c.runs-test.true) in
+    let before : min (4 * c.runs.turn) tree.blocks ≡ k = omega arith in
+    let so = c.runs.invariant.so_far in
+    let here : SoFar tree (g.D.Disk.first c.args.disk.now) (g.D.Disk.calls c.args.disk.now) c.runs.builder k (g.D.Disk.calls c.runs.disk) so.0 =
+    rw before at so.1 in
+    writes_err c.from_residual.result tree _ _ _ c.from_residual.ensures.0
+    (so_far_stopped tree _ _ c.runs.builder k _ _ so.0 here below c.read_run.ensures.calls)
+
+pub returns-in_err-read_run-clause-strays : goal.returns-in_err-read_run-clause-strays
+returns-in_err-read_run-clause-strays g c =
+    let tree : TreePlan = c.args.tree.now in
+    let first = c.runs.invariant.first in
+    let so = c.runs.invariant.so_far in
+    let lawful : IfSome (history_told (g.D.Disk.first c.args.disk.now) (g.D.Disk.calls c.runs.disk)) IsLawful =
+    rw first at (g.met.D.Disk.lawful c.runs.disk) in
+    let same : SameLength (g.D.Disk.first c.args.disk.now) (g.D.Disk.calls c.args.disk.now) (g.D.Disk.calls c.runs.disk) =
+    length_so_far tree _ _ c.runs.builder _ _ so.0 so.1 (omega arith) lawful in
+    stays_says (LieIn tree) _ _ _ _
+    (stays_more (LieIn tree) _ _ _ _ _ _ same c.runs.invariant.strays
+    (stays_of (LieIn tree) _ _ _ _ (rw first at c.read_run.ensures.strays)))
+
+pub each-init : goal.each-init
+each-init g c =
+    let tree : TreePlan = c.args.tree.now in
+    let k : ℕ = 4 * c.runs.turn in
+    let count : ℕ = min (tree.blocks - k) 4 in
+    let low : k < tree.blocks = omega (arith, c.runs-test.true) in
+    let counted : c.min-count.result ≡ count = omega arith in
+    let old_long : length (take (4096 * c.min-count.result) c.runs.buffer) ≡ 4096 * c.min-count.result =
+    length-take-le (4096 * c.min-count.result) c.runs.buffer (omega arith) in
+    let olds_long : length (take c.min-count.result c.runs.hashed) ≡ c.min-count.result =
+    length-take-le c.min-count.result c.runs.hashed (omega arith) in
+    let long : length c.read_run.new.run ≡ length (take (4096 * c.min-count.result) c.runs.buffer) = c.read_run.auto.run in
+    let start : min (4 * c.runs.turn) tree.blocks ≡ k = omega arith in
+    let before : k ≡ k + 0 = omega arith in
+    let first = c.runs.invariant.first in
+    let so = c.runs.invariant.so_far in
+    let here : SoFar tree (g.D.Disk.first c.args.disk.now) (g.D.Disk.calls c.args.disk.now) c.runs.builder k (g.D.Disk.calls c.runs.disk) so.0 =
+    rw start at so.1 in
+    let at : IsAt tree k c.runs.builder = rw start at c.runs.invariant.builder in
+    let lawful : IfSome (history_told (g.D.Disk.first c.args.disk.now) (g.D.Disk.calls c.runs.disk)) IsLawful =
+    rw first at (g.met.D.Disk.lawful c.runs.disk) in
+    let same : SameLength (g.D.Disk.first c.args.disk.now) (g.D.Disk.calls c.args.disk.now) (g.D.Disk.calls c.runs.disk) =
+    length_so_far tree _ _ c.runs.builder k _ so.0 here (omega arith) lawful in
+    record {
+      builder = rw before at at;
+      waiting = c.runs.invariant.waiting;
+      first = c.read_run.ensures.first ∙ first;
+      faults = c.in_ok-read_run.ensures.cause.kept ∙ c.runs.invariant.faults;
+      strays = stays_more (LieIn tree) _ _ _ _ _ _ same c.runs.invariant.strays
+          (stays_of (LieIn tree) _ _ _ _ (rw first at c.read_run.ensures.strays));
+      read = run_read tree c.requires.plan _ _ c.runs.builder k c.min-count.result _ _ so.0 c.read_run.new.run c.read_run.new.digests here
+          (omega arith) old_long long lawful (rw first at c.in_ok-read_run.ensures.range) (rw first at c.in_ok-read_run.ensures.bytes)
+          (rw olds_long at c.in_ok-read_run.ensures.digests);
+      so_far = (so.0, rw (c.read_run.ensures.calls, ← before) here);
+    }
 
 pub take_block-requires-clause-builder : goal.take_block-requires-clause-builder
-take_block-requires-clause-builder g c = c.loop-k.invariant.builder
+take_block-requires-clause-builder g c = c.each.invariant.builder
 
 pub take_block-requires-clause-waiting : goal.take_block-requires-clause-waiting
-take_block-requires-clause-waiting g c = c.loop-k.invariant.waiting
+take_block-requires-clause-waiting g c = c.each.invariant.waiting
 
 pub take_block-requires-clause-taken : goal.take_block-requires-clause-taken
-take_block-requires-clause-taken g c = (c.loop-k.invariant.so_far.0, c.loop-k.invariant.so_far.1.has)
+take_block-requires-clause-taken g c = (c.each.invariant.so_far.0, c.each.invariant.so_far.1.has)
 
-pub loop-k-preserved : goal.loop-k-preserved
-loop-k-preserved g c =
+pub take_block-requires-clause-block : goal.take_block-requires-clause-block
+take_block-requires-clause-block g c =
+    let read = c.each.invariant.read c.each.i c.each-test.true in
+    (read.0, read.1)
+
+pub each-preserved : goal.each-preserved
+each-preserved g c =
     let tree : TreePlan = c.args.tree.now in
-    let first = c.loop-k.invariant.first in
-    let so = c.loop-k.invariant.so_far in
-    let below = c.loop-k-test.true in
-    let lawful : IfSome (history_told (g.D.Disk.first c.args.disk.now) (g.D.Disk.calls c.loop-k.disk)) IsLawful =
-    rw first at (g.met.D.Disk.lawful c.loop-k.disk) in
-    let same : SameLength (g.D.Disk.first c.args.disk.now) (g.D.Disk.calls c.args.disk.now) (g.D.Disk.calls c.loop-k.disk) =
-    length_so_far tree _ _ c.loop-k.builder c.loop-k.k _ so.0 so.1 (omega arith) lawful in
-    let took = c.in_ok-take_block.ensures.takes in
-    let block : List ℕ = took.0 in
-    let is : IsBlockAt tree c.loop-k.k (g.D.Disk.first c.args.disk.now) (g.D.Disk.calls c.loop-k.disk) block = rw first at took.1 in
+    let k : ℕ = 4 * c.runs.turn in
+    let i : ℕ = c.each.i in
+    let low : k < tree.blocks = omega (arith, c.runs-test.true) in
+    let below : k + i < tree.blocks = omega (arith, c.each-test.true) in
+    let next : k + i + 1 ≡ k + (i + 1) = omega arith in
+    let first = c.each.invariant.first in
+    let so = c.each.invariant.so_far in
+    let lawful : IfSome (history_told (g.D.Disk.first c.args.disk.now) (g.D.Disk.calls c.each.disk)) IsLawful =
+    rw first at (g.met.D.Disk.lawful c.each.disk) in
+    let same : SameLength (g.D.Disk.first c.args.disk.now) (g.D.Disk.calls c.args.disk.now) (g.D.Disk.calls c.each.disk) =
+    length_so_far tree _ _ c.each.builder (k + i) _ so.0 so.1 (omega arith) lawful in
+    let read = c.each.invariant.read i c.each-test.true in
+    let more : SoFar tree (g.D.Disk.first c.args.disk.now) (g.D.Disk.calls c.args.disk.now) c.take_block.new.builder (k + i + 1)
+    (g.D.Disk.calls c.take_block.new.disk) (so.0 ++ read.0 ∷ []) =
+    so_far_more _ tree _ _ c.each.builder c.take_block.new.builder (k + i) _ _ so.0 read.0 so.1 below read.2
+    (c.in_ok-take_block.ensures.takes read.0 read.1) in
     record {
-      builder = c.in_ok-take_block.ensures.builder;
+      builder = rw next at c.in_ok-take_block.ensures.builder;
       waiting = c.in_ok-take_block.ensures.waiting;
       first = c.take_block.ensures.first ∙ first;
-      faults = c.in_ok-take_block.ensures.cause.kept ∙ c.loop-k.invariant.faults;
-      strays = stays_more (LieIn tree) _ _ _ _ _ _ same c.loop-k.invariant.strays
+      faults = c.in_ok-take_block.ensures.cause.kept ∙ c.each.invariant.faults;
+      strays = stays_more (LieIn tree) _ _ _ _ _ _ same c.each.invariant.strays
           (stays_of (LieIn tree) _ _ _ _ (rw first at c.take_block.ensures.strays));
-      reaches = reaches_more tree c.loop-k.k _ _ _ same (rw first at c.in_ok-take_block.ensures.range);
-      so_far = (
-        so.0 ++ block ∷ [],
-        so_far_more _ tree c.requires.plan _ _ c.loop-k.builder c.take_block.new.builder c.loop-k.k _
-            _ so.0 block so.1 below lawful is took.2,
-      );
+      read = c.each.invariant.read;
+      so_far = (so.0 ++ read.0 ∷ [], rw next at more);
     }
 
 pub returns-in_err-take_block-clause-written : goal.returns-in_err-take_block-clause-written
 returns-in_err-take_block-clause-written g c =
     let tree : TreePlan = c.args.tree.now in
-    let first = c.loop-k.invariant.first in
-    let so = c.loop-k.invariant.so_far in
-    let below = c.loop-k-test.true in
-    let lawful : IfSome (history_told (g.D.Disk.first c.args.disk.now) (g.D.Disk.calls c.loop-k.disk)) IsLawful =
-    rw first at (g.met.D.Disk.lawful c.loop-k.disk) in
-    let took = c.in_err-take_block.ensures.takes in
-    let block : List ℕ = took.0 in
-    let is : IsBlockAt tree c.loop-k.k (g.D.Disk.first c.args.disk.now) (g.D.Disk.calls c.loop-k.disk) block = rw first at took.1 in
-    writes_err c.from_residual.result tree _ _ _ c.from_residual.ensures.0
-    (so_far_broke _ tree c.requires.plan _ _ c.loop-k.builder c.take_block.new.builder c.loop-k.k _
-    _ so.0 block so.1 below lawful is took.2)
+    let k : ℕ = 4 * c.runs.turn in
+    let i : ℕ = c.each.i in
+    let low : k < tree.blocks = omega (arith, c.runs-test.true) in
+    let below : k + i < tree.blocks = omega (arith, c.each-test.true) in
+    let so = c.each.invariant.so_far in
+    let read = c.each.invariant.read i c.each-test.true in
+    writes_err c.from_residual-in_err-take_block.result tree _ _ _ c.from_residual-in_err-take_block.ensures.0
+    (so_far_broke _ tree _ _ c.each.builder c.take_block.new.builder (k + i) _ _ so.0 read.0 so.1 below read.2
+    (c.in_err-take_block.ensures.takes read.0 read.1))
 
 pub returns-in_err-take_block-clause-strays : goal.returns-in_err-take_block-clause-strays
 returns-in_err-take_block-clause-strays g c =
     let tree : TreePlan = c.args.tree.now in
-    let first = c.loop-k.invariant.first in
-    let so = c.loop-k.invariant.so_far in
-    let below = c.loop-k-test.true in
-    let lawful : IfSome (history_told (g.D.Disk.first c.args.disk.now) (g.D.Disk.calls c.loop-k.disk)) IsLawful =
-    rw first at (g.met.D.Disk.lawful c.loop-k.disk) in
-    let same : SameLength (g.D.Disk.first c.args.disk.now) (g.D.Disk.calls c.args.disk.now) (g.D.Disk.calls c.loop-k.disk) =
-    length_so_far tree _ _ c.loop-k.builder c.loop-k.k _ so.0 so.1 (omega arith) lawful in
+    let k : ℕ = 4 * c.runs.turn in
+    let i : ℕ = c.each.i in
+    let low : k < tree.blocks = omega (arith, c.runs-test.true) in
+    let below : k + i < tree.blocks = omega (arith, c.each-test.true) in
+    let first = c.each.invariant.first in
+    let so = c.each.invariant.so_far in
+    let lawful : IfSome (history_told (g.D.Disk.first c.args.disk.now) (g.D.Disk.calls c.each.disk)) IsLawful =
+    rw first at (g.met.D.Disk.lawful c.each.disk) in
+    let same : SameLength (g.D.Disk.first c.args.disk.now) (g.D.Disk.calls c.args.disk.now) (g.D.Disk.calls c.each.disk) =
+    length_so_far tree _ _ c.each.builder (k + i) _ so.0 so.1 (omega arith) lawful in
     stays_says (LieIn tree) _ _ _ _
-    (stays_more (LieIn tree) _ _ _ _ _ _ same c.loop-k.invariant.strays
+    (stays_more (LieIn tree) _ _ _ _ _ _ same c.each.invariant.strays
     (stays_of (LieIn tree) _ _ _ _ (rw first at c.take_block.ensures.strays)))
+
+pub runs-preserved : goal.runs-preserved
+runs-preserved g c =
+    let tree : TreePlan = c.args.tree.now in
+    let k : ℕ = 4 * c.runs.turn in
+    let low : k < tree.blocks = omega (arith, c.runs-test.true) in
+    let count : ℕ = min (tree.blocks - k) 4 in
+    let counted : c.min-count.result ≡ count = omega arith in
+    let ended : c.each.i ≡ c.min-count.result = omega (arith, c.each-test.false) in
+    let after : min (4 * (c.runs.turn + 1)) tree.blocks ≡ k + c.each.i = omega arith in
+    let all : min (4 * (c.runs.turn + 1)) tree.blocks ≡ k + c.min-count.result = omega arith in
+    let old_long : length (take (4096 * c.min-count.result) c.runs.buffer) ≡ 4096 * c.min-count.result =
+    length-take-le (4096 * c.min-count.result) c.runs.buffer (omega arith) in
+    let first = c.runs.invariant.first in
+    let so = c.runs.invariant.so_far in
+    let lawful : IfSome (history_told (g.D.Disk.first c.args.disk.now) (g.D.Disk.calls c.runs.disk)) IsLawful =
+    rw first at (g.met.D.Disk.lawful c.runs.disk) in
+    let same : SameLength (g.D.Disk.first c.args.disk.now) (g.D.Disk.calls c.args.disk.now) (g.D.Disk.calls c.runs.disk) =
+    length_so_far tree _ _ c.runs.builder _ _ so.0 so.1 (omega arith) lawful in
+    record {
+      builder = rw after c.each.invariant.builder;
+      waiting = c.each.invariant.waiting;
+      first = c.each.invariant.first;
+      faults = c.each.invariant.faults;
+      strays = c.each.invariant.strays;
+      reaches = reaches_run tree k c.min-count.result _ _ _ _ _ same old_long all (rw first at c.in_ok-read_run.ensures.range);
+      so_far = (c.each.invariant.so_far.0, rw after c.each.invariant.so_far.1);
+    }
 
 pub finish-requires : goal.finish-requires
 finish-requires g c =
-    let all : c.loop-k.k ≡ c.args.tree.now.blocks = omega arith in
-    let at : IsAt c.args.tree.now c.loop-k.k c.loop-k.builder = c.loop-k.invariant.builder in
-    let so = c.loop-k.invariant.so_far in
-    record { plan = c.requires.plan; builder = rw all at at; taken = (so.0, so.1.has); waiting = c.loop-k.invariant.waiting }
+    let tree : TreePlan = c.args.tree.now in
+    let all : min (4 * c.runs.turn) tree.blocks ≡ tree.blocks = omega (arith, c.runs-test.false) in
+    let so = c.runs.invariant.so_far in
+    record {
+      plan = c.requires.plan;
+      builder = rw all at c.runs.invariant.builder;
+      taken = (so.0, so.1.has);
+      waiting = c.runs.invariant.waiting;
+    }
 
 pub returns-clause-written : goal.returns-clause-written
 returns-clause-written g c =
     let tree : TreePlan = c.args.tree.now in
-    let all : c.loop-k.k ≡ tree.blocks = omega arith in
-    let so = c.loop-k.invariant.so_far in
-    let row : SoFar tree (g.D.Disk.first c.args.disk.now) (g.D.Disk.calls c.args.disk.now) c.loop-k.builder tree.blocks
-    (g.D.Disk.calls c.loop-k.disk) so.0 =
-    subst (λ (k : ℕ). SoFar tree (g.D.Disk.first c.args.disk.now) (g.D.Disk.calls c.args.disk.now) c.loop-k.builder k
-    (g.D.Disk.calls c.loop-k.disk) so.0) all so.1 in (
+    let all : min (4 * c.runs.turn) tree.blocks ≡ tree.blocks = omega (arith, c.runs-test.false) in
+    let so = c.runs.invariant.so_far in
+    let row : SoFar tree (g.D.Disk.first c.args.disk.now) (g.D.Disk.calls c.args.disk.now) c.runs.builder tree.blocks
+    (g.D.Disk.calls c.runs.disk) so.0 = rw all at so.1 in (
       so.0,
       so_far_blocks tree _ _ _ _ so.0 row,
       so_far_shown tree _ _ _ _ so.0 row,
-      writes_hashes c.finish.result tree _ _ c.loop-k.builder _ _ so.0 row (c.finish.ensures.done so.0 row.has)
+      writes_hashes c.finish.result tree _ _ c.runs.builder _ _ so.0 row (c.finish.ensures.done so.0 row.has)
           (c.finish.ensures.root so.0 row.has)
           (c.finish.ensures.failed so.0 row.has),
     )
@@ -114,22 +218,22 @@ returns-clause-written g c =
 pub returns-clause-range : goal.returns-clause-range
 returns-clause-range g c =
     let tree : TreePlan = c.args.tree.now in
-    let all : c.loop-k.k ≡ tree.blocks = omega arith in
+    let all : min (4 * c.runs.turn) tree.blocks ≡ tree.blocks = omega (arith, c.runs-test.false) in
     let some : 1 ≤ tree.blocks = c.requires.plan.some in
     let reaches : Reaches tree tree.blocks (g.D.Disk.first c.args.disk.now) (g.D.Disk.calls c.args.disk.now) =
-    rw all at c.loop-k.invariant.reaches in
+    rw all at c.runs.invariant.reaches in
     told_so (history_told (g.D.Disk.first c.args.disk.now) (g.D.Disk.calls c.args.disk.now)) _ _ (λ h lies. on_ok c.finish.result lies)
     (reaches_all tree _ _ some reaches)
 
 pub returns-clause-strays : goal.returns-clause-strays
 returns-clause-strays g c =
     let tree : TreePlan = c.args.tree.now in
-    let first = c.loop-k.invariant.first in
-    let so = c.loop-k.invariant.so_far in
-    let lawful : IfSome (history_told (g.D.Disk.first c.args.disk.now) (g.D.Disk.calls c.loop-k.disk)) IsLawful =
-    rw first at (g.met.D.Disk.lawful c.loop-k.disk) in
-    let same : SameLength (g.D.Disk.first c.args.disk.now) (g.D.Disk.calls c.args.disk.now) (g.D.Disk.calls c.loop-k.disk) =
-    length_so_far tree _ _ c.loop-k.builder c.loop-k.k _ so.0 so.1 (omega arith) lawful in
+    let first = c.runs.invariant.first in
+    let so = c.runs.invariant.so_far in
+    let lawful : IfSome (history_told (g.D.Disk.first c.args.disk.now) (g.D.Disk.calls c.runs.disk)) IsLawful =
+    rw first at (g.met.D.Disk.lawful c.runs.disk) in
+    let same : SameLength (g.D.Disk.first c.args.disk.now) (g.D.Disk.calls c.args.disk.now) (g.D.Disk.calls c.runs.disk) =
+    length_so_far tree _ _ c.runs.builder _ _ so.0 so.1 (omega arith) lawful in
     stays_says (LieIn tree) _ _ _ _
-    (stays_more (LieIn tree) _ _ _ _ _ _ same c.loop-k.invariant.strays
+    (stays_more (LieIn tree) _ _ _ _ _ _ same c.runs.invariant.strays
     (stays_of (LieIn tree) _ _ _ _ (rw first at c.finish.ensures.strays)))
