@@ -72,7 +72,14 @@ fn write_hashes<D: Disk>(disk: &mut D, tree: &TreePlan, room: &mut [u8]) -> Resu
         let digests = &mut hashed[..count];
         read_run(disk, tree, k, run, digests)?;
         'each: for i in 0..count {
-            take_block(disk, tree, k + i as u64, digests[i], &mut builder, &mut waiting)?;
+            take_block(
+                disk,
+                tree,
+                k + i as u64,
+                digests[i],
+                &mut builder,
+                &mut waiting,
+            )?;
         }
     }
     finish(disk, tree, builder, &mut waiting)

@@ -1,7 +1,5 @@
 -- Data blocks were read, and each was hashed.
-use Rattle.std.proofs.Common.{◌≡◌, ℕ, ◌*◌, ◌<◌, ◌≤◌, List, length, map, ◌∙◌, arith}
-use Rattle.std.specs.Prelude.{IfSome}
-use Rattle.rp_disk.specs.Made.{history_told}
+use Rattle.std.proofs.Common.{◌≡◌, length, arith}
 use Rattle.rp_verity.proofs.Cutting.{digests_cut}
 use Rattle.rp_format.specs.Written.{LieIn}
 use Rattle.rp_format.specs.declared.tree.TreePlan.{TreePlan}

@@ -2,7 +2,7 @@
 use Rattle.std.proofs.Common.{◌≡◌, ℕ, ◌+◌, ◌-◌, ◌≤◌, ◌<◌, List, [], ◌∷◌, ◌++◌, length, replicate, sym, subst, ◌∙◌, ap, arith, append_assoc, length-append}
 use Rattle.std.proofs.lemmas.List.{length-replicate}
 use Rattle.rp_base.specs.Trees.{levels}
-use Rattle.rp_disk.specs.Made.{Made, dones}
+use Rattle.rp_disk.specs.Made.{dones}
 use Rattle.rp_disk.specs.Runs.{MadeFirst}
 use Rattle.rp_verity.specs.declared.builder.Builder.{Builder}
 use Rattle.rp_verity.specs.Builder.{HasTaken}
@@ -15,7 +15,7 @@ use Rattle.rp_format.specs.Written.{LieIn}
 use Rattle.rp_format.specs.declared.tree.TreePlan.{TreePlan}
 use Rattle.rp_format.proofs.Pushed.{full_ends, length-full_with, length-placed, not_refused, pushed_next, takes_err}
 use Rattle.rp_format.proofs.Steps.{broke_first}
-use Rattle.rp_format.proofs.Told.{Stays, stays_of, stays_says, stays_weaker}
+use Rattle.rp_format.proofs.Told.{stays_of, stays_says, stays_weaker}
 use Rattle.rp_format.proofs.format.take_block.Goals as goal
 
 -- rows of blocks that go on

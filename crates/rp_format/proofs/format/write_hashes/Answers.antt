@@ -1,5 +1,5 @@
 -- All data blocks are taken in turn, some of them read at once.
-use Rattle.std.proofs.Common.{◌≡◌, ℕ, ◌+◌, ◌-◌, ◌*◌, ◌<◌, ◌≤◌, List, [], ◌∷◌, ◌++◌, length, length-take-le, min, take, refl, ◌∙◌, arith}
+use Rattle.std.proofs.Common.{◌≡◌, ℕ, ◌+◌, ◌-◌, ◌*◌, ◌<◌, ◌≤◌, [], ◌∷◌, ◌++◌, length, length-take-le, min, take, refl, ◌∙◌, arith}
 use Rattle.std.specs.Prelude.{IfSome}
 use Rattle.rp_disk.specs.History.{IsLawful}
 use Rattle.rp_disk.specs.Made.{history_told}
