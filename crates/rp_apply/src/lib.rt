@@ -2,6 +2,7 @@
 #![tactic(auto)]
 
 mod carrying;
+mod numbers;
 mod paths;
 mod ready;
 

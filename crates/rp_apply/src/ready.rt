@@ -2,13 +2,12 @@ ghost use Rattle.std.specs.Prelude.{◌≡◌, ◌≤◌, All, IfOk, length};
 ghost use Rattle.rp_base.specs.Geometry.{least_sectors};
 ghost use Rattle.rp_base.specs.Plan.{IsWellFormed, noted_of};
 ghost use Rattle.rp_stops.specs.Order.{target_sectors as target_sectors_of};
-ghost use Rattle.rp_base.specs.Table.{TableFits};
-ghost use Rattle.rp_steps.specs.Contents.{NotesFit};
 ghost use Rattle.rp_steps.specs.Writes.{writes as writes_in};
 ghost use Rattle.rp_apply.specs.Ready.{IsReady, IsReadyFor};
 ghost use Rattle.rp_region.specs.Region.{HoldsCopies};
 ghost use Rattle.rp_apply.specs.Sourced.{NamesSource};
 
+use crate::numbers::plan_fits;
 use crate::paths::paths_of;
 use rp_base::{List, Memory, Plan, Seen, Text, sector_units};
 use rp_defs::Definition;
@@ -55,6 +54,7 @@ pub fn prepare(
     requires sources { All (NamesSource defs.now) plan.now.notes }
     ensures { IfOk result (IsReadyFor plan.now seen.now defs.now) }
 {
+    plan_fits(plan);
     let steps = steps_of(alloc, plan, seen)?;
     let paths = paths_of(alloc, defs)?;
     let kept = copy_of_plan(alloc, plan)?;
@@ -78,11 +78,9 @@ pub(crate) fn target_sectors(plan: &Plan) -> u64
     plan.target / sector_units(plan.goal.sector)
 }
 
-// An equal plan. As each value of the type, it has numbers within their fields.
+// An equal plan.
 fn copy_of_plan(alloc: Global, plan: &Plan) -> Result<Plan, Memory>
-    ensures same { IfOk result (λ copy. copy ≡ plan.now) }
-    ensures table_fits { TableFits plan.now.goal }
-    ensures notes_fit { NotesFit plan.now }
+    ensures { IfOk result (λ copy. copy ≡ plan.now) }
 {
     Ok(Plan {
         target: plan.target,
