@@ -31,10 +31,6 @@ use Rattle.rp_apply.specs.declared.ready.Ready.{Ready}
 abbrev pub sources_of : Ready → List Stored → Sources
 sources_of ready files = sources_in files ready.paths
 
--- a disk that tells has as many bytes as were seen
-abbrev pub IsSeenLength : Ready → Option (List ℕ) → List Made → Type 0
-IsSeenLength ready first made = IfSome (history_told first made) (λ h. length (shown h) ≡ 512 * ready.seen.sectors)
-
 -- the calls are those of the plan: at Ok all, else some first ones
 abbrev pub MakesPlanned : {T : Type 0} → Ready → List Stored → Option (List ℕ) → List Made → List Made → Result T ApplyFault → Type 0
 MakesPlanned ready files first old new result = IfSome (history_told first old) (λ h.

@@ -39,23 +39,24 @@ fn row_fits(row: &Row)
     guid_fits(row.id);
     number_fits(row.attrs);
     name_fits(row.name);
+    units_fit(&row.name);
 }
 
 fn guid_fits(guid: Guid)
     ensures { length guid.0 ≡ 16 }
-{
-}
+{}
 
 fn number_fits(number: u64)
     ensures { number < 2 ^ 64 }
-{
-}
+{}
 
 fn name_fits(name: [u16; 36])
-    ensures units { length name ≡ 36 }
-    ensures fit { All (λ unit. unit < 2 ^ 16) name }
-{
-}
+    ensures { length name ≡ 36 }
+{}
+
+fn units_fit(units: &[u16])
+    ensures { All (λ unit. unit < 2 ^ 16) units.now }
+{}
 
 fn notes_fit(notes: &[Note])
     ensures { All (λ note. RoleFits note.role) notes.now }
@@ -67,5 +68,4 @@ fn notes_fit(notes: &[Note])
 
 fn role_fits(role: Role)
     ensures { RoleFits role }
-{
-}
+{}
