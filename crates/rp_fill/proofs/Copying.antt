@@ -19,7 +19,7 @@ use Rattle.rp_disk.proofs.Runs.{broke_off_in, history_of-dones, one_more, shown-
 use Rattle.rp_io.specs.Files.{Reads, content, passes}
 use Rattle.rp_io.specs.declared.stored.Stored.{Stored}
 use Rattle.rp_steps.specs.Calls.{in_pieces}
-use Rattle.rp_fill.specs.Copied.{CopiesPiece, IsCopyOf, IsRead, file_bytes}
+use Rattle.rp_fill.specs.Copied.{CopiesPiece, HasAll, IsCopyOf, IsRead, file_bytes}
 use Rattle.rp_steps.specs.Writes.{piece, pieces}
 use Rattle.rp_fill.specs.declared.fault.FillFault.{FillFault}
 use Rattle.rp_fill.specs.declared.fault.FillFault.TheVariants.{Disk, Source}
@@ -177,6 +177,38 @@ copied_more told path len at k old now new read so from size is done =
       made = one_more old now new (some_pieces at p.bytes k) (piece_call at p.bytes k) p.made (done ∙ ap (λ c. now ++ Done c ∷ []) (sym p.next))
           ∙ ap (λ l. old ++ dones l) (sym (pieces-more at p.bytes k));
     }
+
+-- where the sources tell, the file has all bytes of so many pieces
+unfoldable pub HasPieces : Option (List Stored) → List ℕ → ℕ → ℕ → Type 0
+HasPieces told path len k = IfSome told (λ files. min (piece * k) len ≤ length (file_bytes files path))
+
+pub has_none : (told : Option (List Stored)) (path : List ℕ) (len : ℕ) → HasPieces told path len 0
+unfolding HasPieces
+has_none None path len = tt
+has_none (Some files) path len = omega arith
+
+-- one piece more, of sources that tell as at the beginning
+pub has_more : (told then_told : Option (List Stored)) (path : List ℕ) (len k : ℕ) (read : List ℕ) → then_told ≡ told → piece * k ≤ len
+    → length read ≡ min piece (len - piece * k) → IsRead then_told path (piece * k) read → HasPieces told path len (k + 1)
+unfolding HasPieces
+has_more None then_told path len k read same from size is = tt
+has_more (Some files) then_told path len k read same from size is =
+    let here : IsRead (Some files) path (piece * k) read = rw same at is in
+    let r = read_file (content files path) (piece * k) (length read) read here in
+    let reach : piece * k + length read ≤ length (file_bytes files path) = r.0 in
+    omega arith
+
+pub has_all : (told : Option (List Stored)) (path : List ℕ) (len k : ℕ) → HasPieces told path len k → k ≡ pieces len
+    → IfSome told (λ files. len ≤ length (file_bytes files path))
+unfolding HasPieces
+has_all None path len k has all = tt
+has_all (Some files) path len k has all = omega arith
+
+pub not_ok : {T E : Type 0} (result : Result T E) (told : Option (List Stored)) (path : List ℕ) (len : ℕ) → IsErr result
+    → HasAll told path len result
+not_ok (Ok x) told path len err = absurd (let no = err in cc)
+not_ok (Err e) None path len err = tt
+not_ok (Err e) (Some files) path len err = tt
 
 -- all pieces
 pub copied_all : (told : Option (List Stored)) (path : List ℕ) (len at k : ℕ) (old new : List Made) → CopiedSoFar told path len at k old new

@@ -1,5 +1,5 @@
 -- What a copy of a source writes: own rules.
-use Rattle.std.specs.Prelude.{ℕ, ◌≡◌, ◌⊎◌, ◌+◌, List, [], ◌∷◌, ◌++◌, Option, IfSome, Result, Ok, Err, length, unwrap_or}
+use Rattle.std.specs.Prelude.{ℕ, ◌≡◌, ◌⊎◌, ◌+◌, ◌≤◌, List, [], ◌∷◌, ◌++◌, Option, IfSome, OnOk, Result, Ok, Err, length, unwrap_or}
 use Rattle.rp_disk.specs.Calls.{resized}
 use Rattle.rp_disk.specs.Made.{Made, Done, Broke}
 use Rattle.rp_disk.specs.declared.call.Call.TheVariants.{Write}
@@ -12,10 +12,14 @@ use Rattle.rp_fill.specs.declared.fault.FillFault.TheVariants.{Disk, Source}
 abbrev pub file_bytes : List Stored → List ℕ → List ℕ
 file_bytes files path = unwrap_or (content files path) []
 
--- so many bytes; where the sources tell, the first ones of the file, and zeros stand for what it lacks, which no copying can read
+-- so many bytes; where the sources tell, the first ones of the file, and zeros stand for what it lacks, which no copying reads
 pub record IsCopyOf (told : Option (List Stored)) (path : List ℕ) (len : ℕ) (bytes : List ℕ) : Type 0 where
   pub size : length bytes ≡ len
   pub same : IfSome told (λ files. bytes ≡ resized (file_bytes files path) len)
+
+-- where the sources tell, an Ok comes only where the file has so many bytes
+abbrev pub HasAll : {T E : Type 0} → Option (List Stored) → List ℕ → ℕ → Result T E → Type 0
+HasAll told path len result = IfSome told (λ files. OnOk result (len ≤ length (file_bytes files path)))
 
 -- what was read are these bytes of a file, where the sources tell
 abbrev pub IsRead : Option (List Stored) → List ℕ → ℕ → List ℕ → Type 0

@@ -5,7 +5,7 @@ ghost use Rattle.rp_disk.specs.Runs.{Runs};
 ghost use Rattle.rp_io.specs.Files.{content, passes};
 ghost use Rattle.rp_steps.specs.Calls.{in_pieces};
 ghost use Rattle.rp_fill.specs.Causes.{HasDiskCause, HasSourceCause};
-ghost use Rattle.rp_fill.specs.Copied.{CopiesPiece, IsCopyOf};
+ghost use Rattle.rp_fill.specs.Copied.{CopiesPiece, HasAll, IsCopyOf};
 ghost use Rattle.rp_steps.specs.Writes.{piece};
 
 use crate::FillFault;
@@ -14,7 +14,8 @@ use rp_disk::Disk;
 use rp_io::Sources;
 
 /// Writes the first so many bytes of a source from a place on, piece by piece: pieces of 262,144 bytes, and a last one that
-/// may be shorter. Each is read once, into the room, which has at least a piece's bytes.
+/// may be shorter. Each is read once, into the room, which has at least a piece's bytes. A file that has fewer bytes is a
+/// fault of the source, if no write failed before its end.
 pub fn copy_source<D: Disk, S: Sources>(
     disk: &mut D,
     sources: &mut S,
@@ -29,6 +30,7 @@ pub fn copy_source<D: Disk, S: Sources>(
     ensures told { S.told sources.new ≡ S.told sources.old }
     ensures ran { (bytes : List ℕ) × IsCopyOf (S.told sources.old) path.now len bytes
         × Runs (D.calls disk.old) (in_pieces at bytes) (D.calls disk.new) result }
+    ensures whole { HasAll (S.told sources.old) path.now len result }
     ensures disk_strays { IfSome (history_told (D.first disk.old) (D.calls disk.old)) (λ h. at + len ≤ length (shown h) → D.strays disk.new ≡ D.strays disk.old) }
     ensures source_strays { IfSome (S.told sources.old) (λ files. passes (content files path.now) len ≡ false → S.strays sources.new ≡ S.strays sources.old) }
     ensures disk_cause { HasDiskCause (D.faults disk.old) (D.faults disk.new) result }

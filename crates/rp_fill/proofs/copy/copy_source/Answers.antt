@@ -1,6 +1,6 @@
 use Rattle.std.proofs.Common.{◌≡◌, ℕ, ◌≤◌, List, length, take, refl, ◌∙◌, arith, rules, Err}
 use Rattle.std.proofs.lemmas.List.{length-take}
-use Rattle.rp_fill.proofs.Copying.{copied_all, copied_more, copied_none, copied_part_of, reaches, reaches_more, reaches_none, reaches_says, run_ended, stays_copied, stays_in, stays_none, stays_says}
+use Rattle.rp_fill.proofs.Copying.{copied_all, copied_more, copied_none, copied_part_of, has_all, has_more, has_none, not_ok, reaches, reaches_more, reaches_none, reaches_says, run_ended, stays_copied, stays_in, stays_none, stays_says}
 use Rattle.rp_fill.proofs.copy.copy_source.Goals as goal
 
 pub loop-k-init : goal.loop-k-init
@@ -8,6 +8,7 @@ loop-k-init g c = record {
   first = refl;
   told = refl;
   copied = copied_none _ _ _ _ _;
+  whole = has_none _ _ _;
   disk_faults = refl;
   source_faults = refl;
   disk_strays = stays_none _ _ _ _;
@@ -29,6 +30,8 @@ loop-k-preserved g c =
       told = search rules;
       copied = copied_more _ _ c.args.len _ c.loop-k.k _ _ _ c.copy_piece.new.part i.copied c.size_of.ensures.fits
           (c.copy_piece.auto.part ∙ long ∙ c.size_of.ensures.size) (rw i.told at h.0) h.1;
+      whole = has_more _ _ _ _ c.loop-k.k c.copy_piece.new.part i.told c.size_of.ensures.fits
+          (c.copy_piece.auto.part ∙ long ∙ c.size_of.ensures.size) h.0;
       disk_faults = search rules;
       source_faults = search rules;
       disk_strays = stays_copied _ _ _ _ _ _ c.args.at c.args.len c.loop-k.k _ _ _ _ (omega (arith, c.pieces-k-end.ensures, c.loop-k-test.true)) i.first i.copied
@@ -46,6 +49,9 @@ returns-in_err-copy_piece-clause-ran g c =
     (copied_part_of {T = Unit {0}} (Err c.in_err-copy_piece.field-0.0) _ _ _ c.args.len _ c.loop-k.k _ _ _ c.copy_piece.new.part i.told i.copied
     (omega (arith, c.pieces-k-end.ensures, c.loop-k-test.true)) (c.copy_piece.auto.part ∙ long ∙ c.size_of.ensures.size)
     c.in_err-copy_piece.ensures.ran)
+
+pub returns-in_err-copy_piece-clause-whole : goal.returns-in_err-copy_piece-clause-whole
+returns-in_err-copy_piece-clause-whole g c = not_ok _ _ _ _ c.from_residual.ensures.0
 
 pub returns-in_err-copy_piece-clause-disk_strays : goal.returns-in_err-copy_piece-clause-disk_strays
 returns-in_err-copy_piece-clause-disk_strays g c =
@@ -66,6 +72,11 @@ returns-in_err-copy_piece-clause-source_strays g c =
 pub returns-clause-ran : goal.returns-clause-ran
 returns-clause-ran g c = let h = copied_all _ _ _ _ _ _ _ c.loop-k.invariant.copied (omega (arith, c.pieces-k-end.ensures, c.loop-k-test.false, c.loop-k.auto.k-end)) in
     (h.0, h.1, record { ok = h.2; err = tt })
+
+pub returns-clause-whole : goal.returns-clause-whole
+returns-clause-whole g c =
+    has_all _ _ _ c.loop-k.k c.loop-k.invariant.whole
+    (omega (arith, c.pieces-k-end.ensures, c.loop-k-test.false, c.loop-k.auto.k-end))
 
 pub returns-clause-disk_strays : goal.returns-clause-disk_strays
 returns-clause-disk_strays g c = stays_says _ _ _ _ _ c.loop-k.invariant.disk_strays

@@ -1,5 +1,5 @@
 use Rattle.std.proofs.Common.{◌≡◌, ◌+◌}
-use Rattle.rp_fill.proofs.Copying.{CopiedSoFar, Reaches, StaysIn}
+use Rattle.rp_fill.proofs.Copying.{CopiedSoFar, HasPieces, Reaches, StaysIn}
 use Rattle.rp_fill.proofs.copy.copy_source.Given as goal
 
 abbrev pub invariant-loop-k : goal.invariant-loop-k
@@ -7,6 +7,7 @@ invariant-loop-k g l = record {
   first : g.D.Disk.first l.disk ≡ g.D.Disk.first l.initial.disk;
   told : g.S.Sources.told l.sources ≡ g.S.Sources.told l.initial.sources;
   copied : CopiedSoFar (g.S.Sources.told l.initial.sources) l.path l.len l.at l.k (g.D.Disk.calls l.initial.disk) (g.D.Disk.calls l.disk);
+  whole : HasPieces (g.S.Sources.told l.initial.sources) l.path l.len l.k;
   disk_faults : g.D.Disk.faults l.disk ≡ g.D.Disk.faults l.initial.disk;
   source_faults : g.S.Sources.faults l.sources ≡ g.S.Sources.faults l.initial.sources;
   disk_strays : StaysIn (g.D.Disk.first l.initial.disk) (g.D.Disk.calls l.initial.disk) (l.at + l.len)
