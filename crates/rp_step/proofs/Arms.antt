@@ -28,7 +28,8 @@ use Rattle.rp_step.specs.Sourced.{path_at}
 
 -- causes
 
-pub disk_cause : {T : Type 0} (before now : ℕ) (answer : Result T Failed) → HasCause before now answer → HasDiskCause before now (from_disk answer)
+pub disk_cause : {T : Type 0} (before now : ℕ) (answer : Result T Failed) → HasCause before now answer
+    → HasDiskCause before now (from_disk answer)
 disk_cause before now (Ok value) cause = cause.kept
 disk_cause before now (Err failed) cause = (cause.later, cause.failed)
 
@@ -54,7 +55,8 @@ tree_disk_cause before now (Ok None) planned cause = cause.kept
 tree_disk_cause before now (Ok (Some copied)) planned cause = cause.kept
 tree_disk_cause before now (Err failed) planned cause = (cause.later, cause.failed)
 
-pub tree_source_still : (count : ℕ) (answer : Result (Option (List ℕ)) Failed) (planned : List ℕ) → HasSourceCause count count (from_tree answer planned)
+pub tree_source_still : (count : ℕ) (answer : Result (Option (List ℕ)) Failed) (planned : List ℕ)
+    → HasSourceCause count count (from_tree answer planned)
 tree_source_still count (Ok None) planned = refl
 tree_source_still count (Ok (Some copied)) planned = refl
 tree_source_still count (Err failed) planned = refl
@@ -94,16 +96,33 @@ fixed_root HeaderBackup fixed = tt
 fixed_root Mbr fixed = tt
 fixed_root Sync fixed = tt
 
-pub fixed_made : {T : Type 0} (plan : Plan) (outside : Outside) (step : Step) (old new : List Made) (answer : Result T Failed) → IsFixed step
-    → Runs old (calls_with plan nothing_found step) new answer → (found : Found) × MakesStep plan outside step found old new (from_disk answer)
-fixed_made plan outside step old new (Ok value) fixed runs =
-    (nothing_found, record { found_is = fixed_found outside old step fixed; ran = record { ok = runs.ok; err = tt }; root = fixed_root step fixed; changed = tt })
-fixed_made plan outside step old new (Err failed) fixed runs =
-    (nothing_found, record { found_is = fixed_found outside old step fixed; ran = record { ok = tt; err = runs.err }; root = tt; changed = tt })
+pub fixed_made : {T : Type 0} (plan : Plan) (outside : Outside) (step : Step) (old new : List Made) (answer : Result T Failed)
+    → IsFixed step
+    → Runs old (calls_with plan nothing_found step) new answer
+    → (found : Found) × MakesStep plan outside step found old new (from_disk answer)
+fixed_made plan outside step old new (Ok value) fixed runs = (
+  nothing_found,
+  record {
+    found_is = fixed_found outside old step fixed;
+    ran = record { ok = runs.ok; err = tt };
+    root = fixed_root step fixed;
+    changed = tt;
+  },
+)
+fixed_made plan outside step old new (Err failed) fixed runs = (
+  nothing_found,
+  record {
+    found_is = fixed_found outside old step fixed;
+    ran = record { ok = tt; err = runs.err };
+    root = tt;
+    changed = tt;
+  },
+)
 
 -- what is neither a copy nor a tree
 pub fixed_of : (paths : List (List ℕ)) (step : Step) → CanMake paths step → ((file at len : ℕ) → step ≡ Copy file at len → ⊥)
-    → ((data_at hash_at blocks : ℕ) (salt : List ℕ) (uuid : Guid) (root : List ℕ) → step ≡ Tree data_at hash_at blocks salt uuid root → ⊥) → IsFixed step
+    → ((data_at hash_at blocks : ℕ) (salt : List ℕ) (uuid : Guid) (root : List ℕ) → step ≡ Tree data_at hash_at blocks salt uuid root
+    → ⊥) → IsFixed step
 fixed_of paths (Copy file at len) can copy tree = absurd (copy file at len refl)
 fixed_of paths (Tree data_at hash_at blocks salt uuid root) can copy tree = absurd (tree data_at hash_at blocks salt uuid root refl)
 fixed_of paths (Zero at len) can copy tree = can
@@ -118,9 +137,14 @@ fixed_of paths Mbr can copy tree = tt
 fixed_of paths Sync can copy tree = tt
 
 -- one call is a run of one
-pub one_call : {T E : Type 0} (old new : List Made) (call : Call) (answer : Result T E) → Makes old call new answer → Runs old (call ∷ []) new answer
+pub one_call : {T E : Type 0} (old new : List Made) (call : Call) (answer : Result T E) → Makes old call new answer
+    → Runs old (call ∷ []) new answer
 one_call old new call (Ok value) makes = record { ok = makes.ok; err = tt }
-one_call old new call (Err fault) makes = record { ok = tt; err = broke_off_in old old new [] call [] (call ∷ []) refl (sym (append-nil old)) makes.err }
+one_call old new call (Err fault) makes = record {
+  ok = tt;
+  err = broke_off_in old old new [] call [] (call ∷ []) refl
+      (sym (append-nil old)) makes.err;
+}
 
 -- a copy
 
@@ -128,16 +152,38 @@ pub copy_made : {T : Type 0} (plan : Plan) (outside : Outside) (file at len : �
     → (bytes : List ℕ) × IsCopyOf outside.told (path_at outside.paths file) len bytes × Runs old (in_pieces at bytes) new answer
     → (found : Found) × MakesStep plan outside (Copy file at len) found old new (from_fill answer)
 unfolding calls_with
-copy_made plan outside file at len old new (Ok value) copy =
-    (record { bytes = copy.0; blocks = [] }, record { found_is = copy.1; ran = record { ok = copy.2.ok; err = tt }; root = tt; changed = tt })
-copy_made plan outside file at len old new (Err Disk) copy =
-    (record { bytes = copy.0; blocks = [] }, record { found_is = copy.1; ran = record { ok = tt; err = copy.2.err }; root = tt; changed = tt })
-copy_made plan outside file at len old new (Err Source) copy =
-    (record { bytes = copy.0; blocks = [] }, record { found_is = copy.1; ran = record { ok = tt; err = copy.2.err }; root = tt; changed = tt })
+copy_made plan outside file at len old new (Ok value) copy = (
+  record { bytes = copy.0; blocks = [] },
+  record {
+    found_is = copy.1;
+    ran = record { ok = copy.2.ok; err = tt };
+    root = tt;
+    changed = tt;
+  },
+)
+copy_made plan outside file at len old new (Err Disk) copy = (
+  record { bytes = copy.0; blocks = [] },
+  record {
+    found_is = copy.1;
+    ran = record { ok = tt; err = copy.2.err };
+    root = tt;
+    changed = tt;
+  },
+)
+copy_made plan outside file at len old new (Err Source) copy = (
+  record { bytes = copy.0; blocks = [] },
+  record {
+    found_is = copy.1;
+    ran = record { ok = tt; err = copy.2.err };
+    root = tt;
+    changed = tt;
+  },
+)
 
 -- a tree
 
-pub tree_made : (plan : Plan) (outside : Outside) (data_at hash_at blocks : ℕ) (salt : List ℕ) (uuid : Guid) (root : List ℕ) (old new : List Made)
+pub tree_made : (plan : Plan) (outside : Outside) (data_at hash_at blocks : ℕ) (salt : List ℕ) (uuid : Guid) (root : List ℕ)
+    (old new : List Made)
     (answer : Result (Option (List ℕ)) Failed) → WritesTree (tree_of data_at hash_at blocks salt uuid root) outside.first old new answer
     → (found : Found) × MakesStep plan outside (Tree data_at hash_at blocks salt uuid root) found old new (from_tree answer root)
 unfolding calls_with
@@ -157,7 +203,11 @@ tree_made plan outside data_at hash_at blocks salt uuid root old new (Ok (Some c
       record { bytes = []; blocks = wrote.0 },
       record {
         found_is = (wrote.1, wrote.2);
-        ran = record { ok = tt; err = broke_before old new hashes (Write hash_at (superblock uuid blocks salt)) (dones hashes, are_all hashes, done.0) };
+        ran = record {
+          ok = tt;
+          err = broke_before old new hashes (Write hash_at (superblock uuid blocks salt))
+              (dones hashes, are_all hashes, done.0);
+        };
         root = tt;
         changed = (refl, done.1, done.2, done.0);
       },

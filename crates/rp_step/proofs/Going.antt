@@ -61,7 +61,8 @@ module _ (plan : Plan) (outside : Outside) where
   HaveRoots-append made (f ∷ fs) gs (x ∷ xs) ys are roots more =
       (roots.0, HaveRoots-append (made ++ dones (calls_with plan f x)) fs gs xs ys are.1 roots.1 more)
 
-  stops_behind : (made new : List Made) (fs gs : List Found) (xs ys : List Step) (planned copied : List ℕ) → AreFound plan outside made fs xs
+  stops_behind : (made new : List Made) (fs gs : List Found) (xs ys : List Step) (planned copied : List ℕ)
+      → AreFound plan outside made fs xs
       → HaveRoots fs xs → StopsAtRoot plan gs planned copied (made ++ dones (all_calls plan fs xs)) new ys
       → StopsAtRoot plan (fs ++ gs) planned copied made new (xs ++ ys)
   stops_behind made new [] gs [] ys planned copied are roots stops =
@@ -72,7 +73,8 @@ module _ (plan : Plan) (outside : Outside) where
       inr (
         roots.0,
         stops_behind (made ++ dones (calls_with plan f x)) new fs gs xs ys planned copied are.1 roots.1
-            (subst (λ (l : List Made). StopsAtRoot plan gs planned copied l new ys) (dones_more made (calls_with plan f x) (all_calls plan fs xs)) stops),
+            (subst (λ (l : List Made). StopsAtRoot plan gs planned copied l new ys)
+            (dones_more made (calls_with plan f x) (all_calls plan fs xs)) stops),
       )
 
   -- so many steps were made
@@ -88,7 +90,8 @@ module _ (plan : Plan) (outside : Outside) where
   so_far_none old = ([], record { found_are = tt; made = sym (append-nil old); roots = tt })
 
   -- one step more
-  so_far_more : {T : Type 0} (steps : List Step) (step : Step) (found : Found) (old mid now : List Made) (value : T) → AreSoFar steps old mid
+  so_far_more : {T : Type 0} (steps : List Step) (step : Step) (found : Found) (old mid now : List Made) (value : T)
+      → AreSoFar steps old mid
       → MakesStep {T = T} plan outside step found mid now (Ok value) → AreSoFar (steps ++ step ∷ []) old now
   so_far_more steps step found old mid now value so makes =
       let fs = so.0 in
@@ -101,13 +104,15 @@ module _ (plan : Plan) (outside : Outside) where
         record {
           found_are = AreFound-append old fs (found ∷ []) steps (step ∷ []) is.found_are
               (subst (λ (l : List Made). IsFound outside l found step) is.made makes.found_is, tt);
-          made = more old mid now (all_calls plan fs steps) calls is.made makes.ran.ok ∙ ap (λ (l : List Call). old ++ dones l) (sym whole);
+          made = more old mid now (all_calls plan fs steps) calls is.made makes.ran.ok
+              ∙ ap (λ (l : List Call). old ++ dones l) (sym whole);
           roots = HaveRoots-append old fs (found ∷ []) steps (step ∷ []) is.found_are is.roots (makes.root, tt);
         },
       )
 
   -- all steps
-  pub all_made : {T : Type 0} (steps : List Step) (i : ℕ) (old now : List Made) (value : T) → length steps ≤ i → AreSoFar (take i steps) old now
+  pub all_made : {T : Type 0} (steps : List Step) (i : ℕ) (old now : List Made) (value : T) → length steps ≤ i
+      → AreSoFar (take i steps) old now
       → (founds : List Found) × MakesSteps {T = T} plan outside steps founds old now (Ok value)
   all_made {T = T} steps i old now value past so =
       let P : List Step → Type 0 = λ l. (founds : List Found) × MakesSteps {T = T} plan outside l founds old now (Ok value) in
@@ -115,7 +120,8 @@ module _ (plan : Plan) (outside : Outside) where
       (so.0, record { found_are = so.1.found_are; ran = record { ok = so.1.made; err = tt }; roots = so.1.roots; changed = tt })
 
   -- at a fault: what the steps behind would have found stands for itself
-  changed_at : (fault : ApplyFault) (fs rest : List Found) (found : Found) (steps behind : List Step) (step : Step) (old mid now : List Made)
+  changed_at : (fault : ApplyFault) (fs rest : List Found) (found : Found) (steps behind : List Step) (step : Step)
+      (old mid now : List Made)
       → SoFar steps fs old mid → IfChanged fault (λ planned copied. HasOtherRoot found planned copied mid now step)
       → IfChanged fault (λ planned copied. StopsAtRoot plan (fs ++ found ∷ rest) planned copied old now (steps ++ step ∷ behind))
   changed_at DiskFault fs rest found steps behind step old mid now so changed = tt
@@ -151,7 +157,8 @@ module _ (plan : Plan) (outside : Outside) where
       )
 
   -- the same at a place of a list of steps
-  pub so_far_at : {T : Type 0} (steps : List Step) (i : ℕ) (d : Step) (found : Found) (old mid now : List Made) (value : T) → i < length steps
+  pub so_far_at : {T : Type 0} (steps : List Step) (i : ℕ) (d : Step) (found : Found) (old mid now : List Made) (value : T)
+      → i < length steps
       → AreSoFar (take i steps) old mid → MakesStep {T = T} plan outside (get_or steps i d) found mid now (Ok value)
       → AreSoFar (take (i + 1) steps) old now
   so_far_at steps i d found old mid now value below so makes =

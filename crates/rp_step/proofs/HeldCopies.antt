@@ -39,13 +39,15 @@ module _ (plan : Plan) (blocks : Blocks) (goal : CanWrite plan) (stocked : IsSto
   pub long_copy : (which : Which) → length (exact plan.goal which (target_sectors plan)) ≡ copy_bytes plan.goal.entries plan.goal.sector
   long_copy which = length-exact plan.goal goal.writable goal.fits which (target_sectors plan)
 
-  pub primary_held : take (copy_bytes plan.goal.entries plan.goal.sector) (bytes_of blocks.pool blocks.primary) ≡ exact plan.goal Primary (target_sectors plan)
+  pub primary_held : take (copy_bytes plan.goal.entries plan.goal.sector) (bytes_of blocks.pool blocks.primary)
+      ≡ exact plan.goal Primary (target_sectors plan)
   primary_held =
       ap (λ (n : ℕ). take n (bytes_of blocks.pool blocks.primary)) (sym (long_copy Primary))
       ∙ ap (λ (run : Run). take (length (exact plan.goal Primary (target_sectors plan))) (bytes_of blocks.pool run)) stocked.leased.primary
       ∙ stocked.copies.primary
 
-  pub backup_held : take (copy_bytes plan.goal.entries plan.goal.sector) (bytes_of blocks.pool blocks.backup) ≡ exact plan.goal Backup (target_sectors plan)
+  pub backup_held : take (copy_bytes plan.goal.entries plan.goal.sector) (bytes_of blocks.pool blocks.backup)
+      ≡ exact plan.goal Backup (target_sectors plan)
   backup_held =
       ap (λ (n : ℕ). take n (bytes_of blocks.pool blocks.backup)) (sym (long_copy Backup))
       ∙ ap (λ (run : Run). take (length (exact plan.goal Backup (target_sectors plan))) (bytes_of blocks.pool run)) stocked.leased.backup

@@ -19,18 +19,21 @@ pub levels_out : (region : Region) (run : Run) → region.out ≡ all_out → ru
 levels_out region run out is = rw is record { some = omega arith; out = ap (λ (o : List ℕ). slice_index o 130) out }
 
 -- the rooms of a piece and of a tree
-pub piece_size : (region : Region) (run : Run) (bytes : List ℕ) → IsRegion region → region.out ≡ all_out → run ≡ piece_run → bytes ≡ bytes_of region run
+pub piece_size : (region : Region) (run : Run) (bytes : List ℕ) → IsRegion region → region.out ≡ all_out → run ≡ piece_run
+    → bytes ≡ bytes_of region run
     → length bytes ≡ 262144
 piece_size region run bytes is out run_is are =
     ap length are ∙ length-bytes_of region run is (piece_out region run out run_is) ∙ ap (λ (r : Run). 4096 * r.blocks) run_is
 
-pub levels_size : (region : Region) (run : Run) (bytes : List ℕ) → IsRegion region → region.out ≡ all_out → run ≡ levels_run → bytes ≡ bytes_of region run
+pub levels_size : (region : Region) (run : Run) (bytes : List ℕ) → IsRegion region → region.out ≡ all_out → run ≡ levels_run
+    → bytes ≡ bytes_of region run
     → length bytes ≡ 24576
 levels_size region run bytes is out run_is are =
     ap length are ∙ length-bytes_of region run is (levels_out region run out run_is) ∙ ap (λ (r : Run). 4096 * r.blocks) run_is
 
 -- a run that is out, behind both copies
-kept_by : (old : Blocks) (run : Run) (bytes : List ℕ) → IsLeased old → IsOut old.pool run → 66 ≤ run.first → length bytes ≡ 4096 * run.blocks
+kept_by : (old : Blocks) (run : Run) (bytes : List ℕ) → IsLeased old → IsOut old.pool run → 66 ≤ run.first
+    → length bytes ≡ 4096 * run.blocks
     → KeepsCopies old (record old { pool = written old.pool run bytes })
 kept_by old run bytes leased out behind size =
     let past : run.first ≢ 0 = λ e. omega (arith, behind, e) in

@@ -35,7 +35,8 @@ use Rattle.rp_step.specs.declared.fault.ApplyFault.{ApplyFault}
 
 pieces-are : (at : ℕ) (bytes : List ℕ) → Each IsWrite (in_pieces at bytes)
 unfolding in_pieces
-pieces-are at bytes = Each-map IsWrite (λ k. Write (at + piece * k) (bytes_at bytes (piece * k) piece)) 0 (pieces (length bytes)) (λ j low high. refl)
+pieces-are at bytes = Each-map IsWrite (λ k. Write (at + piece * k) (bytes_at bytes (piece * k) piece)) 0 (pieces (length bytes))
+    (λ j low high. refl)
 
 tree-are : (hash_at blocks : ℕ) (tree : List (List ℕ)) → Each IsWrite (tree_writes hash_at blocks tree)
 unfolding tree_writes
@@ -50,10 +51,13 @@ kept first old new calls done writes lawful = same_length (Some first) old new c
 now_shown : (first : List ℕ) (old new : List Made) (calls : List Call) → new ≡ old ++ dones calls
     → shown (history_of first new) ≡ all_done (shown (history_of first old)) calls
 now_shown first old new calls done =
-    ap (λ (l : List Made). shown (history_of first l)) done ∙ ap shown (history_of-dones first old calls) ∙ shown-all_did (history_of first old) calls
+    ap (λ (l : List Made). shown (history_of first l)) done ∙ ap shown (history_of-dones first old calls)
+    ∙ shown-all_did (history_of first old) calls
 
-pub length_after : (plan : Plan) (found : Found) (step : Step) (first : List ℕ) (old new : List Made) → new ≡ old ++ dones (calls_with plan found step)
-    → IfSome (history_told (Some first) new) IsLawful → length (shown (history_of first new)) ≡ size_after (length (shown (history_of first old))) step
+pub length_after : (plan : Plan) (found : Found) (step : Step) (first : List ℕ) (old new : List Made)
+    → new ≡ old ++ dones (calls_with plan found step)
+    → IfSome (history_told (Some first) new) IsLawful
+    → length (shown (history_of first new)) ≡ size_after (length (shown (history_of first old))) step
 unfolding calls_with calls_of
 length_after plan found (Grow len) first old new done lawful =
     ap length (now_shown first old new (SetLen len ∷ []) done) ∙ length-resized (shown (history_of first old)) len
@@ -79,15 +83,18 @@ unfoldable pub LieSoFar : Plan → Option (List ℕ) → List Step → List Step
 LieSoFar plan first steps left old now before strays = IfSome first (λ bytes. AllLieIn plan (length (shown (history_of bytes old))) steps
     → (strays ≡ before) × AllLieIn plan (length (shown (history_of bytes now))) left)
 
-pub lie_none : (plan : Plan) (first : Option (List ℕ)) (steps : List Step) (old : List Made) (before : ℕ) → LieSoFar plan first steps steps old old before before
+pub lie_none : (plan : Plan) (first : Option (List ℕ)) (steps : List Step) (old : List Made) (before : ℕ)
+    → LieSoFar plan first steps steps old old before before
 unfolding LieSoFar
 lie_none plan None steps old before = tt
 lie_none plan (Some bytes) steps old before = λ lies. (refl, lies)
 
-pub lie_more : (plan : Plan) (first : Option (List ℕ)) (found : Found) (steps left : List Step) (step : Step) (old mid now : List Made) (before then strays : ℕ)
+pub lie_more : (plan : Plan) (first : Option (List ℕ)) (found : Found) (steps left : List Step) (step : Step) (old mid now : List Made)
+    (before then strays : ℕ)
     → LieSoFar plan first steps (step ∷ left) old mid before then → now ≡ mid ++ dones (calls_with plan found step)
     → IfSome (history_told first now) IsLawful
-    → IfSome (history_told first mid) (λ h. LiesIn plan (length (shown h)) step → strays ≡ then) → LieSoFar plan first steps left old now before strays
+    → IfSome (history_told first mid) (λ h. LiesIn plan (length (shown h)) step → strays ≡ then)
+    → LieSoFar plan first steps left old now before strays
 unfolding LieSoFar
 lie_more plan None found steps left step old mid now before then strays so done lawful stays = tt
 lie_more plan (Some bytes) found steps left step old mid now before then strays so done lawful stays = λ lies.
@@ -103,7 +110,8 @@ unfolding LieSoFar
 lie_all plan None steps left old now before strays so = tt
 lie_all plan (Some bytes) steps left old now before strays so = λ lies. (so lies).0
 
-pub lie_broke : (plan : Plan) (first : Option (List ℕ)) (steps left : List Step) (step : Step) (old mid : List Made) (before then strays : ℕ)
+pub lie_broke : (plan : Plan) (first : Option (List ℕ)) (steps left : List Step) (step : Step) (old mid : List Made)
+    (before then strays : ℕ)
     → LieSoFar plan first steps (step ∷ left) old mid before then
     → IfSome (history_told first mid) (λ h. LiesIn plan (length (shown h)) step → strays ≡ then)
     → IfSome (history_told first old) (λ h. AllLieIn plan (length (shown h)) steps → strays ≡ before)
@@ -112,8 +120,10 @@ lie_broke plan None steps left step old mid before then strays so stays = tt
 lie_broke plan (Some bytes) steps left step old mid before then strays so stays = λ lies. let all = so lies in stays all.1.0 ∙ all.0
 
 -- the same at a place of a list of steps
-pub lie_at : {T : Type 0} (plan : Plan) (outside : Outside) (first : Option (List ℕ)) (found : Found) (steps : List Step) (i : ℕ) (d : Step)
-    (old mid now : List Made) (before then strays : ℕ) (value : T) → i < length steps → LieSoFar plan first steps (drop i steps) old mid before then
+pub lie_at : {T : Type 0} (plan : Plan) (outside : Outside) (first : Option (List ℕ)) (found : Found) (steps : List Step) (i : ℕ)
+    (d : Step)
+    (old mid now : List Made) (before then strays : ℕ) (value : T) → i < length steps
+    → LieSoFar plan first steps (drop i steps) old mid before then
     → MakesStep {T = T} plan outside (get_or steps i d) found mid now (Ok value) → IfSome (history_told first now) IsLawful
     → IfSome (history_told first mid) (λ h. LiesIn plan (length (shown h)) (get_or steps i d) → strays ≡ then)
     → LieSoFar plan first steps (drop (i + 1) steps) old now before strays
@@ -121,8 +131,10 @@ lie_at plan outside first found steps i d old mid now before then strays value b
     lie_more plan first found steps (drop (i + 1) steps) (get_or steps i d) old mid now before then strays
     (subst (λ (l : List Step). LieSoFar plan first steps l old mid before then) (drop_more steps i d below) so) makes.ran.ok lawful stays
 
-pub lie_broken_at : {T : Type 0} (plan : Plan) (outside : Outside) (first : Option (List ℕ)) (found : Found) (steps : List Step) (i : ℕ) (d : Step)
-    (old mid now : List Made) (before then strays : ℕ) (fault : ApplyFault) → i < length steps → LieSoFar plan first steps (drop i steps) old mid before then
+pub lie_broken_at : {T : Type 0} (plan : Plan) (outside : Outside) (first : Option (List ℕ)) (found : Found) (steps : List Step) (i : ℕ)
+    (d : Step)
+    (old mid now : List Made) (before then strays : ℕ) (fault : ApplyFault) → i < length steps
+    → LieSoFar plan first steps (drop i steps) old mid before then
     → MakesStep {T = T} plan outside (get_or steps i d) found mid now (Err fault)
     → IfSome (history_told first mid) (λ h. LiesIn plan (length (shown h)) (get_or steps i d) → strays ≡ then)
     → IfSome (history_told first old) (λ h. AllLieIn plan (length (shown h)) steps → strays ≡ before)
@@ -131,7 +143,8 @@ lie_broken_at plan outside first found steps i d old mid now before then strays 
     (subst (λ (l : List Step). LieSoFar plan first steps l old mid before then) (drop_more steps i d below) so) stays
 
 -- no call of the steps so far asked for what its source lacks, where all find their files; and one step more
-pub files_at : (told : Option (List Stored)) (paths : List (List ℕ)) (steps : List Step) (i : ℕ) (d : Step) (before then strays : ℕ) → i < length steps
+pub files_at : (told : Option (List Stored)) (paths : List (List ℕ)) (steps : List Step) (i : ℕ) (d : Step) (before then strays : ℕ)
+    → i < length steps
     → IfSome told (λ files. All (HasFile files paths) steps → then ≡ before)
     → IfSome told (λ files. HasFile files paths (get_or steps i d) → strays ≡ then)
     → IfSome told (λ files. All (HasFile files paths) steps → strays ≡ before)

@@ -21,7 +21,8 @@ use Rattle.rp_steps.specs.declared.step.Step.TheVariants.{Grow, Zero, Copy, Tree
 use Rattle.rp_verity.specs.Filled.{cut}
 
 -- what holds of each number of a row of them
-All-map-range : (P : List ℕ → Type 0) (f : ℕ → List ℕ) (a n : ℕ) → ((k : ℕ) → a ≤ k → k < a + n → P (f k)) → All P (map f (range_with_len a n))
+All-map-range : (P : List ℕ → Type 0) (f : ℕ → List ℕ) (a n : ℕ) → ((k : ℕ) → a ≤ k → k < a + n → P (f k))
+    → All P (map f (range_with_len a n))
 All-map-range P f a zero each = All-nil P
 All-map-range P f a (suc n) each =
     All-cons P (f a) (map f (range_with_len (a + 1) n)) (each a (omega arith) (omega arith))
@@ -30,7 +31,10 @@ All-map-range P f a (suc n) each =
 -- bytes for a copy
 some_copy : (told : Option (List Stored)) (path : List ℕ) (len : ℕ) → (bytes : List ℕ) × IsCopyOf told path len bytes
 some_copy None path len = (replicate len 0, record { size = length-replicate {A = ℕ} len 0; same = tt })
-some_copy (Some files) path len = (resized (file_bytes files path) len, record { size = length-resized (file_bytes files path) len; same = refl })
+some_copy (Some files) path len = (
+  resized (file_bytes files path) len,
+  record { size = length-resized (file_bytes files path) len; same = refl },
+)
 
 -- bytes that are cut into blocks
 are_blocks : (count : ℕ) (bytes : List ℕ) → length bytes ≡ 4096 * count → AreBlocks count (cut count bytes)

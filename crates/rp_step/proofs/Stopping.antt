@@ -45,7 +45,8 @@ lawful_front : (first : List ℕ) (front back : List Made) → IsLawful (history
 lawful_front first front back lawful = lawful_first (history_of first front) back (subst IsLawful (after_made-append _ front back) lawful)
 
 -- the calls that were made go on from those at the start
-goes_on : (plan : Plan) (founds : List Found) (steps : List Step) (planned copied : List ℕ) (old new : List Made) → StopsAtRoot plan founds planned copied old new steps
+goes_on : (plan : Plan) (founds : List Found) (steps : List Step) (planned copied : List ℕ) (old new : List Made)
+    → StopsAtRoot plan founds planned copied old new steps
     → (more : List Made) × (new ≡ old ++ more)
 goes_on plan [] steps planned copied old new stops = absurd stops
 goes_on plan (found ∷ founds) [] planned copied old new stops = absurd stops
@@ -55,7 +56,11 @@ goes_on plan (found ∷ founds) (step ∷ steps) planned copied old new (inr lat
     (calls ++ r.0, r.1 ∙ append_assoc old calls r.0)
 goes_on plan (found ∷ founds) (step ∷ steps) planned copied old new (inl here) = by step here where
   by : (s : Step) → HasOtherRoot found planned copied old new s → (more : List Made) × (new ≡ old ++ more)
-  by (Tree data_at hash_at blocks salt uuid root) other = (dones (hash_calls (tree_of data_at hash_at blocks salt uuid root) found.blocks), other.3)
+  by (Tree data_at hash_at blocks salt uuid root) other = (
+    dones
+        (hash_calls (tree_of data_at hash_at blocks salt uuid root) found.blocks),
+    other.3,
+  )
   by (Grow len) other = absurd other
   by (Zero from len) other = absurd other
   by (Copy file from len) other = absurd other
@@ -83,25 +88,32 @@ data_apart tree taken plan are =
     let size : length all ≡ blocks_over (levels tree.blocks) tree.blocks =
     length-tree tree.salt taken ∙ ap (λ (n : ℕ). blocks_over (levels n) n) count in
     apart_placed tree.data_at (4096 * tree.blocks) tree.hash_at all (order tree.blocks) (tree_blocks tree.salt taken)
-    (All-weaker (λ place. place < blocks_over (levels tree.blocks) tree.blocks) (λ place. place < length all) (λ place below. omega (arith, below, size)) (order tree.blocks)
+    (All-weaker (λ place. place < blocks_over (levels tree.blocks) tree.blocks) (λ place. place < length all)
+    (λ place below. omega (arith, below, size)) (order tree.blocks)
     (order-inside (levels tree.blocks) tree.blocks plan.some))
     (by plan.apart (omega (arith, over, size))) where
-      by : (data_end tree ≤ tree.hash_at) ⊎ (hash_end tree ≤ tree.data_at) → 1 + length (stored_tree tree.salt taken) ≡ hash_blocks tree.blocks
-          → (tree.data_at + 4096 * tree.blocks ≤ tree.hash_at) ⊎ (tree.hash_at + 4096 * (1 + length (stored_tree tree.salt taken)) ≤ tree.data_at)
+      by : (data_end tree ≤ tree.hash_at) ⊎ (hash_end tree ≤ tree.data_at)
+          → 1 + length (stored_tree tree.salt taken) ≡ hash_blocks tree.blocks
+          → (tree.data_at + 4096 * tree.blocks ≤ tree.hash_at)
+          ⊎ (tree.hash_at + 4096 * (1 + length (stored_tree tree.salt taken)) ≤ tree.data_at)
       by (inl before) whole = inl before
       by (inr behind) whole = inr (omega (arith, behind, whole))
 
 module _ (plan : Plan) (outside : Outside) (first : List ℕ) (shows : outside.first ≡ Some first) where
-  one : (found : Found) (step : Step) (planned copied : List ℕ) (made new : List Made) → IsFound outside made found step → CanMake outside.paths step
-      → LiesIn plan (length (shown (history_of first made))) step → IsLawful (history_of first new) → HasOtherRoot found planned copied made new step
+  one : (found : Found) (step : Step) (planned copied : List ℕ) (made new : List Made) → IsFound outside made found step
+      → CanMake outside.paths step
+      → LiesIn plan (length (shown (history_of first made))) step → IsLawful (history_of first new)
+      → HasOtherRoot found planned copied made new step
       → ShowsOtherStep (shown (history_of first new)) planned copied step
   unfolding SameRange
   one found (Tree data_at hash_at blocks salt uuid root) planned copied made new is can lies lawful other =
       let tree = tree_of data_at hash_at blocks salt uuid root in
       let P : Option (List ℕ) → Type 0 = λ f. IfSome (history_told f made) (λ h. data_end tree ≤ length (shown h)
       → found.blocks ≡ cut blocks (bytes_at (shown h) data_at (4096 * blocks))) in
-      let taken : found.blocks ≡ cut blocks (bytes_at (shown (history_of first made)) data_at (4096 * blocks)) = subst P shows is.1 lies.0 in
-      let still : bytes_at (shown (history_of first new)) data_at (4096 * blocks) ≡ bytes_at (shown (history_of first made)) data_at (4096 * blocks) =
+      let taken : found.blocks ≡ cut blocks (bytes_at (shown (history_of first made)) data_at (4096 * blocks)) = subst P shows is.1
+      lies.0 in
+      let still : bytes_at (shown (history_of first new)) data_at (4096 * blocks)
+      ≡ bytes_at (shown (history_of first made)) data_at (4096 * blocks) =
       same_range data_at (4096 * blocks) (Some first) made new (hash_calls tree found.blocks) other.3
       (hashes-are tree found.blocks) (data_apart tree found.blocks can is.0) lawful lies.0 in
       (other.0, other.1 ∙ ap (root_hash salt) (taken ∙ ap (cut blocks) (sym still)), other.2)
@@ -117,17 +129,25 @@ module _ (plan : Plan) (outside : Outside) (first : List ℕ) (shows : outside.f
   one found Mbr planned copied made new is can lies lawful other = absurd other
   one found Sync planned copied made new is can lies lawful other = absurd other
 
-  pub stopped_shown : (founds : List Found) (steps : List Step) (planned copied : List ℕ) (made new : List Made) → AreFound plan outside made founds steps
+  pub stopped_shown : (founds : List Found) (steps : List Step) (planned copied : List ℕ) (made new : List Made)
+      → AreFound plan outside made founds steps
       → All (CanMake outside.paths) steps → AllLieIn plan (length (shown (history_of first made))) steps → IsLawful (history_of first new)
       → StopsAtRoot plan founds planned copied made new steps → Any (ShowsOtherStep (shown (history_of first new)) planned copied) steps
   stopped_shown [] steps planned copied made new are can lies lawful stops = absurd stops
   stopped_shown (found ∷ founds) [] planned copied made new are can lies lawful stops = absurd stops
-  stopped_shown (found ∷ founds) (step ∷ steps) planned copied made new are can lies lawful (inl here) =
-      (0, step, omega arith, refl, one found step planned copied made new are.0 (All-head (CanMake outside.paths) step steps can) lies.0 lawful here)
+  stopped_shown (found ∷ founds) (step ∷ steps) planned copied made new are can lies lawful (inl here) = (
+    0,
+    step,
+    omega arith,
+    refl,
+    one found step planned copied made new are.0 (All-head (CanMake outside.paths) step steps can) lies.0
+        lawful here,
+  )
   stopped_shown (found ∷ founds) (step ∷ steps) planned copied made new are can lies lawful (inr later) =
       let next = made ++ dones (calls_with plan found step) in
       let more = goes_on plan founds steps planned copied next new later.1 in
-      let lawful_next : IsLawful (history_of first next) = lawful_front first next more.0 (subst (λ (l : List Made). IsLawful (history_of first l)) more.1 lawful) in
+      let lawful_next : IsLawful (history_of first next) = lawful_front first next more.0
+      (subst (λ (l : List Made). IsLawful (history_of first l)) more.1 lawful) in
       let long = length_after plan found step first made next refl lawful_next in
       let r = stopped_shown founds steps planned copied next new are.1 (All-tail (CanMake outside.paths) step steps can)
       (subst (λ (n : ℕ). AllLieIn plan n steps) (sym long) lies.1) lawful later.1 in

@@ -24,7 +24,8 @@ use Rattle.rp_step.specs.Sourced.{path_at, sources_in}
 -- an image holds what a tree is to stand over
 abbrev pub IsLaid : Plan → Sources → List ℕ → Step → Type 0
 IsLaid plan sources image (Tree data_at hash_at blocks salt uuid root) =
-    (data_at + 4096 * blocks ≤ length image) × (cut blocks (bytes_at image data_at (4096 * blocks)) ≡ cut blocks (payload_at plan sources data_at))
+    (data_at + 4096 * blocks ≤ length image) × (cut blocks (bytes_at image data_at (4096 * blocks))
+    ≡ cut blocks (payload_at plan sources data_at))
 IsLaid plan sources image other = Unit {0}
 
 -- the same of steps, each on the image on which those before it are done
@@ -40,7 +41,8 @@ copied_is told files path len bytes is copy =
     let P : Option (List Stored) → Type 0 = λ t. IfSome t (λ f. bytes ≡ resized (file_bytes f path) len) in
     subst P is copy.same
 
-module _ (plan : Plan) (outside : Outside) (files : List Stored) (first : List ℕ) (told : outside.told ≡ Some files) (shows : outside.first ≡ Some first) where
+module _ (plan : Plan) (outside : Outside) (files : List Stored) (first : List ℕ) (told : outside.told ≡ Some files)
+    (shows : outside.first ≡ Some first) where
   abbrev sources : Sources
   sources = sources_in files outside.paths
 
@@ -76,7 +78,8 @@ module _ (plan : Plan) (outside : Outside) (files : List Stored) (first : List �
   tied made found Sync is laid = refl
 
   -- the image on which a step was done
-  pub shown_after : (made : List Made) (calls : List Call) → shown (history_of first (made ++ dones calls)) ≡ all_done (shown (history_of first made)) calls
+  pub shown_after : (made : List Made) (calls : List Call)
+      → shown (history_of first (made ++ dones calls)) ≡ all_done (shown (history_of first made)) calls
   shown_after made calls = ap shown (history_of-dones first made calls) ∙ shown-all_did (history_of first made) calls
 
   pub all_tied : (made : List Made) (founds : List Found) (steps : List Step) → AreFound plan outside made founds steps
@@ -86,7 +89,8 @@ module _ (plan : Plan) (outside : Outside) (files : List Stored) (first : List �
   all_tied made (found ∷ founds) [] are laid = absurd are
   all_tied made (found ∷ founds) (step ∷ steps) are laid =
       let here = tied made found step are.0 laid.0 in
-      let next : shown (history_of first (made ++ dones (calls_with plan found step))) ≡ all_done (shown (history_of first made)) (calls_of plan sources step) =
+      let next : shown (history_of first (made ++ dones (calls_with plan found step)))
+      ≡ all_done (shown (history_of first made)) (calls_of plan sources step) =
       shown_after made (calls_with plan found step) ∙ ap (all_done (shown (history_of first made))) here in
       ap₂ (λ (x y : List Call). x ++ y) here
       (all_tied (made ++ dones (calls_with plan found step)) founds steps are.1

@@ -36,7 +36,8 @@ tree_of data_at hash_at blocks salt uuid root = record {
 -- the calls of a step that finds this: a copy writes the bytes, a tree is that over the data blocks, and each other step is exact
 unfoldable pub calls_with : Plan → Found → Step → List Call
 calls_with plan found (Copy file at len) = in_pieces at found.bytes
-calls_with plan found (Tree data_at hash_at blocks salt uuid root) = tree_calls (tree_of data_at hash_at blocks salt uuid root) found.blocks
+calls_with plan found (Tree data_at hash_at blocks salt uuid root) = tree_calls (tree_of data_at hash_at blocks salt uuid root)
+    found.blocks
 calls_with plan found other = calls_of plan (λ file. []) other
 
 -- those of steps, one behind another

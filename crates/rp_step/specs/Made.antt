@@ -30,7 +30,8 @@ IfChanged other P = ⊤
 
 -- a step that found this was made: at Ok its calls were done whole, and its tree has the planned root hash; where its tree has
 -- another, that is the answer; at a fault some first ones of the calls were made
-pub record MakesStep {T : Type 0} (plan : Plan) (outside : Outside) (step : Step) (found : Found) (old new : List Made) (result : Result T ApplyFault)
+pub record MakesStep {T : Type 0} (plan : Plan) (outside : Outside) (step : Step) (found : Found) (old new : List Made)
+    (result : Result T ApplyFault)
     : Type 0 where
   pub found_is : IsFound outside old found step
   pub ran : Runs old (calls_with plan found step) new result

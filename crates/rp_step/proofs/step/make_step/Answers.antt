@@ -7,7 +7,8 @@ use Rattle.rp_step.proofs.step.make_step.Goals as goal
 pub returns-in-Copy-clause-made : goal.returns-in-Copy-clause-made
 returns-in-Copy-clause-made g c =
     rw (c.in-Copy.is, c.of_fill.ensures)
-    (copy_made _ (outside_of _ c.args.paths.now _) c.in-Copy.file c.in-Copy.at c.in-Copy.len _ _ c.copy.result (rw c.path.ensures at c.copy.ensures.ran))
+    (copy_made _ (outside_of _ c.args.paths.now _) c.in-Copy.file c.in-Copy.at c.in-Copy.len _ _ c.copy.result
+    (rw c.path.ensures at c.copy.ensures.ran))
 
 pub returns-in-Copy-clause-stocked : goal.returns-in-Copy-clause-stocked
 returns-in-Copy-clause-stocked g c = stocked_still c.args.plan.now _ _ c.requires.stocked c.copy.ensures.kept
@@ -22,7 +23,8 @@ pub returns-in-Tree-clause-made : goal.returns-in-Tree-clause-made
 returns-in-Tree-clause-made g c =
     let a = c.in-Tree in
     rw (a.is, c.of_tree.ensures)
-    (tree_made _ (outside_of _ c.args.paths.now _) a.data_at a.hash_at a.count a.salt a.uuid a.root _ _ c.tree.result c.tree.ensures.written)
+    (tree_made _ (outside_of _ c.args.paths.now _) a.data_at a.hash_at a.count a.salt a.uuid a.root _ _ c.tree.result
+    c.tree.ensures.written)
 
 pub returns-in-Tree-clause-stocked : goal.returns-in-Tree-clause-stocked
 returns-in-Tree-clause-stocked g c = stocked_still c.args.plan.now _ _ c.requires.stocked c.tree.ensures.kept

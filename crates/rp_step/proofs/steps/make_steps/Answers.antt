@@ -39,7 +39,8 @@ loop-step-preserved g c =
       disk_faults = c.in_ok-make_step.ensures.disk_cause ∙ i.disk_faults;
       source_faults = c.in_ok-make_step.ensures.source_cause ∙ i.source_faults;
       so_far = so_far_at plan outside steps l.step-index _ made.0 _ _ _ c.in_ok-make_step.field-0 below i.so_far made.1;
-      disk_strays = lie_at plan outside (g.D.Disk.first disk) made.0 steps l.step-index _ _ _ _ _ _ _ c.in_ok-make_step.field-0 below i.disk_strays made.1
+      disk_strays = lie_at plan outside (g.D.Disk.first disk) made.0 steps l.step-index _ _ _ _ _ _ _ c.in_ok-make_step.field-0 below
+          i.disk_strays made.1
           lawful (rw i.first at c.make_step.ensures.disk_strays);
       source_strays = files_at (g.S.Sources.told c.args.sources.now) c.args.paths.now steps l.step-index _ _ _ _ below i.source_strays
           (rw i.told at c.make_step.ensures.source_strays);
@@ -65,12 +66,14 @@ returns-in_err-make_step-clause-disk_strays g c =
     let l = c.loop-step in
     let i = l.invariant in
     let made = rw (i.first, i.told) at c.in_err-make_step.ensures.made in
-    lie_broken_at c.args.plan.now _ (g.D.Disk.first c.args.disk.now) made.0 c.args.steps.now l.step-index _ _ _ _ _ _ _ c.in_err-make_step.field-0.0
+    lie_broken_at c.args.plan.now _ (g.D.Disk.first c.args.disk.now) made.0 c.args.steps.now l.step-index _ _ _ _ _ _ _
+    c.in_err-make_step.field-0.0
     c.loop-step-test.true i.disk_strays made.1 (rw i.first at c.make_step.ensures.disk_strays)
 
 pub returns-in_err-make_step-clause-source_strays : goal.returns-in_err-make_step-clause-source_strays
 returns-in_err-make_step-clause-source_strays g c =
     let l = c.loop-step in
     let i = l.invariant in
-    files_at (g.S.Sources.told c.args.sources.now) c.args.paths.now c.args.steps.now l.step-index _ _ _ _ c.loop-step-test.true i.source_strays
+    files_at (g.S.Sources.told c.args.sources.now) c.args.paths.now c.args.steps.now l.step-index _ _ _ _ c.loop-step-test.true
+    i.source_strays
     (rw i.told at c.make_step.ensures.source_strays)

@@ -13,9 +13,11 @@ invariant-loop-step g l = record {
   told : g.S.Sources.told l.sources ≡ g.S.Sources.told l.initial.sources;
   disk_faults : g.D.Disk.faults l.disk ≡ g.D.Disk.faults l.initial.disk;
   source_faults : g.S.Sources.faults l.sources ≡ g.S.Sources.faults l.initial.sources;
-  so_far : AreSoFar l.plan (outside_of (g.S.Sources.told l.initial.sources) l.paths (g.D.Disk.first l.initial.disk)) (take l.step-index l.steps)
+  so_far : AreSoFar l.plan (outside_of (g.S.Sources.told l.initial.sources) l.paths (g.D.Disk.first l.initial.disk))
+      (take l.step-index l.steps)
       (g.D.Disk.calls l.initial.disk) (g.D.Disk.calls l.disk);
-  disk_strays : LieSoFar l.plan (g.D.Disk.first l.initial.disk) l.steps (drop l.step-index l.steps) (g.D.Disk.calls l.initial.disk) (g.D.Disk.calls l.disk)
+  disk_strays : LieSoFar l.plan (g.D.Disk.first l.initial.disk) l.steps (drop l.step-index l.steps) (g.D.Disk.calls l.initial.disk)
+      (g.D.Disk.calls l.disk)
       (g.D.Disk.strays l.initial.disk) (g.D.Disk.strays l.disk);
   source_strays : IfSome (g.S.Sources.told l.initial.sources) (λ files. All (HasFile files l.paths) l.steps
       → g.S.Sources.strays l.sources ≡ g.S.Sources.strays l.initial.sources);
