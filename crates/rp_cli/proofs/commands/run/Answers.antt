@@ -1,5 +1,6 @@
-use Rattle.std.proofs.Common.{inl, inr, map, string_bytes, sym}
-use Rattle.rp_cli.proofs.Policies.{compare_causes, compare_files, dissect_causes, dissect_files, policy_causes, policy_files}
+use Rattle.std.proofs.Common.{inl, inr, map, string_bytes, subst, sym, true≢false}
+use Rattle.std.specs.Prelude.{IsErr}
+use Rattle.rp_cli.proofs.Policies.{compare_causes, compare_files, compare_words, dissect_causes, dissect_files, policy_causes, policy_files}
 use Rattle.rp_cli.proofs.Promised.{plan_causes, plan_files}
 use Rattle.rp_cli.specs.Asked.{request_of}
 use Rattle.rp_outcome.specs.Device.{device}
@@ -98,6 +99,16 @@ returns-in-Compare-clause-files g c =
     (store g.F.Folders.told g.F.Folders.faults g.F.Folders.strays c.args.folders.now)
     (store g.S.Sources.told g.S.Sources.faults g.S.Sources.strays c.args.sources.now)
     c.run_compare.ensures
+
+-- a difference has another status than words that aren't canonical
+pub returns-in-Compare-clause-words : goal.returns-in-Compare-clause-words
+returns-in-Compare-clause-words g c = (
+  λ e. absurd (compare_words (text_in Policy (map string_bytes c.args.words.now)) (text_in Against (map string_bytes c.args.words.now))
+      (output g.K.Sink.told g.K.Sink.faults c.args.out.now)
+      (output g.K.Sink.told g.K.Sink.faults c.run_compare.new.out)
+      c.run_compare.result c.run_compare.ensures e),
+  λ err. absurd (true≢false (sym (subst (λ answer. IsErr answer) (sym c.in-Ok.ensures.line) err))),
+)
 
 -- no line asks for another command
 pub returns-in_default : goal.returns-in_default
