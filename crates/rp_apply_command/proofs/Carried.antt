@@ -38,14 +38,28 @@ use Rattle.rp_apply.proofs.Anyhow.{are_calls_like}
 use Rattle.rp_apply.proofs.Judging.{changes_at}
 use Rattle.rp_apply.proofs.Laid.{laid}
 use Rattle.rp_apply_command.specs.Applies.{CarriesOut, HasCommitCauses, IsCommitRefusal, Outcome}
+use Rattle.rp_apply_command.specs.Carrying.{HasSeenLength}
 use Rattle.rp_apply_command.proofs.Rooted.{root_of_row}
 
--- the answer with the refusal of each fault
+-- the refusal of each fault
+abbrev pub refusal_of : ApplyFault → Refusal
+refusal_of DiskFault = disk_refusal
+refusal_of SourceFault = source_refusal
+refusal_of (SourceChanged planned copied) = changed_refusal planned copied
+
+-- an answer with it
 abbrev pub outcome_of : {T : Type 0} → Result T ApplyFault → Outcome
 outcome_of (Ok value) = Ok tt
-outcome_of (Err DiskFault) = Err disk_refusal
-outcome_of (Err SourceFault) = Err source_refusal
-outcome_of (Err (SourceChanged planned copied)) = Err (changed_refusal planned copied)
+outcome_of (Err fault) = Err (refusal_of fault)
+
+-- an answer is that of its fault
+pub told_as : {T : Type 0} (result : Result T ApplyFault) (fault other : ApplyFault) (refusal : Refusal) → result ≡ Err fault → fault ≡ other
+    → refusal_of other ≡ refusal → outcome_of result ≡ Err refusal
+told_as result fault other refusal is same told =
+    ap outcome_of is ∙ ap (λ (f : ApplyFault). Err (refusal_of f)) same ∙ ap (λ (r : Refusal). Err r) told
+
+pub told_done : {T : Type 0} (result : Result T ApplyFault) (value : T) → result ≡ Ok value → outcome_of result ≡ Ok tt
+told_done result value is = ap outcome_of is
 
 same_err : (a b : Refusal) → ◌≡◌ {A = Outcome} (Err a) (Err b) → a ≡ b
 same_err a b e = cc
@@ -109,11 +123,15 @@ unchanged plan sources (Err (SourceChanged planned copied)) changes roots =
     subst (λ (n : Noted). HasPlannedRoot plan sources n.1.role) any.3 (roots any.0 any.1 any.2) in
     absurd (clash plan sources planned copied any.1.1.role has any.4)
 
-module _ (definitions : Definitions) (planned : Planned) (disk later : Device) (sources drained : Store (List Stored))
-    (formed : IsWellFormed planned.seen planned.plan) (fit : NotesFit planned.plan)
-    (long : IfSome (history disk) (λ h. length (shown h) ≡ 512 * planned.seen.sectors))
-    (roots : IfSome (history disk) (λ h. IfSome sources.told (λ files.
-    HavePlannedRoots planned.plan (sources_in files (paths_of definitions.list))))) where
+module _ (definitions : Definitions) (planned : Planned) (disk later : Device) (sources drained : Store (List Stored)) (ready : Ready)
+    (is : IsReadyFor planned.plan planned.seen definitions.list ready) (long : HasSeenLength planned disk) where
+  formed : IsWellFormed planned.seen planned.plan
+  formed = subst (λ (s : Seen). IsWellFormed s planned.plan) is.seen_is
+      (subst (λ (p : Plan). IsWellFormed ready.seen p) is.plan_is is.ready_is.well_formed)
+
+  fit : NotesFit planned.plan
+  fit = subst NotesFit is.plan_is is.ready_is.notes_fit
+
   abbrev Makes : {T : Type 0} → List Found → Result T ApplyFault → Type 0
   Makes founds result = MakesSteps planned.plan (outside_of sources.told (paths_of definitions.list) disk.first)
       (steps planned.plan planned.seen) founds disk.calls later.calls result
@@ -124,34 +142,33 @@ module _ (definitions : Definitions) (planned : Planned) (disk later : Device) (
   refusal_is founds (Err DiskFault) makes = inl refl
   refusal_is founds (Err SourceFault) makes = inr (inl refl)
   refusal_is founds (Err (SourceChanged root copied)) makes =
-      let is = root_of_row planned.seen planned.plan formed founds root copied disk.calls later.calls makes.changed in
-      inr (inr (root, copied, refl, λ e. is.0 (sym e), is.1))
+      let other = root_of_row planned.seen planned.plan formed founds root copied disk.calls later.calls makes.changed in
+      inr (inr (root, copied, refl, λ e. other.0 (sym e), other.1))
 
   abbrev Exact : {T : Type 0} → List Found → Result T ApplyFault → List Stored → Type 0
   Exact founds result files =
       (all_calls planned.plan founds (steps planned.plan planned.seen)
       ≡ calls_for planned.plan planned.seen (sources_in files (paths_of definitions.list)))
-      × IfErr (outcome_of result) (λ refusal. refusal.status ≢ exit.changed)
+      × (HavePlannedRoots planned.plan (sources_in files (paths_of definitions.list))
+      → IfErr (outcome_of result) (λ refusal. refusal.status ≢ exit.changed))
 
   exact_is : {T : Type 0} (founds : List Found) (result : Result T ApplyFault) → Makes founds result
       → IfSome (history disk) (λ h. IfSome sources.told (Exact founds result))
-  exact_is founds result makes = by disk.first sources.told makes long roots where
+  exact_is founds result makes = by disk.first sources.told makes long where
     by : (o : Option (List ℕ)) (t : Option (List Stored))
         → MakesSteps planned.plan (outside_of t (paths_of definitions.list) o) (steps planned.plan planned.seen) founds disk.calls
         later.calls result
         → IfSome (history_told o disk.calls) (λ h. length (shown h) ≡ 512 * planned.seen.sectors)
-        → IfSome (history_told o disk.calls) (λ h. IfSome t (λ files.
-        HavePlannedRoots planned.plan (sources_in files (paths_of definitions.list))))
         → IfSome (history_told o disk.calls) (λ h. IfSome t (Exact founds result))
-    by None t m l r = tt
-    by (Some bytes) None m l r = tt
-    by (Some bytes) (Some files) m l r =
+    by None t m l = tt
+    by (Some bytes) None m l = tt
+    by (Some bytes) (Some files) m l =
         let from = sources_in files (paths_of definitions.list) in (
           all_tied planned.plan (outside_of (Some files) (paths_of definitions.list) (Some bytes)) files bytes refl refl disk.calls founds
               (steps planned.plan planned.seen) m.found_are
               (laid planned.plan from planned.seen formed fit (shown (history_of bytes disk.calls)) l),
           unchanged planned.plan from result
-              (changes_at planned.seen planned.plan formed fit (paths_of definitions.list) files bytes founds disk.calls later.calls result m l) r,
+              (changes_at planned.seen planned.plan formed fit (paths_of definitions.list) files bytes founds disk.calls later.calls result m l),
         )
 
   strays_are : IfSome (history disk) (λ h. length (shown h) ≡ 512 * planned.seen.sectors → later.strays ≡ disk.strays)
@@ -163,13 +180,12 @@ module _ (definitions : Definitions) (planned : Planned) (disk later : Device) (
     by None l s = tt
     by (Some h) l s = s l
 
-  pub carries : {T : Type 0} (result : Result T ApplyFault) (ready : Ready)
-      → IsReadyFor planned.plan planned.seen definitions.list ready → later.first ≡ disk.first → drained.told ≡ sources.told
+  pub carries : {T : Type 0} (result : Result T ApplyFault) → later.first ≡ disk.first → drained.told ≡ sources.told
       → (founds : List Found) × MakesSteps ready.plan (outside_of sources.told ready.paths disk.first) ready.steps founds disk.calls later.calls result
       → HasDiskCause disk.faults later.faults result → HasSourceCause sources.faults drained.faults result
       → IfSome (history disk) (λ h. length (shown h) ≡ 512 * ready.seen.sectors → later.strays ≡ disk.strays)
       → (calls : List Call) × CarriesOut definitions planned disk later sources drained calls (outcome_of result)
-  carries result ready is first told made of_disk of_sources strays =
+  carries result first told made of_disk of_sources strays =
       let founds = made.0 in
       let steps_are : ready.steps ≡ steps planned.plan planned.seen =
       is.ready_is.steps ∙ ap (λ (p : Plan). steps p ready.seen) is.plan_is ∙ ap (λ (s : Seen). steps planned.plan s) is.seen_is in

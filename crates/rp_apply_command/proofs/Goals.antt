@@ -40,7 +40,7 @@ settled_ok failure ideal value (inr (inl e)) = absurd (cc)
 settled_ok failure ideal value (inr (inr e)) = absurd (cc)
 
 -- the same image by what is seen of it
-accepted_of : (r : Result Seen TableFault) (seen : Seen) → refused table_refusal r ≡ Ok seen → r ≡ Ok seen
+pub accepted_of : (r : Result Seen TableFault) (seen : Seen) → refused table_refusal r ≡ Ok seen → r ≡ Ok seen
 accepted_of (Ok other) seen e = cc
 accepted_of (Err fault) seen e = absurd (cc)
 
@@ -58,7 +58,7 @@ grows_by origins.Neither now target none least = by_length (nat_lt now target) r
   by_length false is e = let le = ltb-false now target is in inl (omega (arith, le, least))
 
 -- a plan by these facts is the goal
-goal_by : (request : Request) (list : List Definition) (seen : Seen) (facts : List Fact) (planned : Planned) (r : Result Plan Demand)
+pub goal_by : (request : Request) (list : List Definition) (seen : Seen) (facts : List Fact) (planned : Planned) (r : Result Plan Demand)
     → and_then (refused (demand_refusal list) r) (λ plan. Ok (with_seen seen plan)) ≡ Ok planned → (r ≡ Ok planned.plan) × (planned.seen ≡ seen)
 goal_by request list seen facts planned (Ok plan) e =
     let same : with_seen seen plan ≡ planned = cc in

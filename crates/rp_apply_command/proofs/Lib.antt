@@ -7,3 +7,5 @@ pub mod Ended
 pub mod Told
 pub mod Carried
 pub mod Rooted
+pub mod Allowed
+pub mod Opened

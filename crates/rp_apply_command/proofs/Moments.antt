@@ -1,6 +1,7 @@
 -- What a run leaves, by what was made on the disk.
 use Rattle.std.proofs.Common.{◌≡◌, ◌∙◌, ℕ, ◌%◌, ◌^◌, ◌≤◌, List, [], ◌∷◌, ◌++◌, Option, Some, None, Result, Ok, Err, refl, sym, ap, subst}
 use Rattle.std.specs.Prelude.{IfSome, IfErr}
+use Rattle.rp_apply.specs.Commits.{HavePlannedRoots}
 use Rattle.rp_apply.specs.Sourced.{paths_of}
 use Rattle.rp_step.specs.Sourced.{sources_in}
 use Rattle.rp_base.specs.Geometry.{IsSector}
@@ -82,7 +83,8 @@ module _ (request : Request) (definitions : Definitions) (disk opened read later
 
   abbrev Exact : List Stored → Type 0
   Exact files = (calls ≡ calls_for planned.plan planned.seen (sources_in files (paths_of definitions.list)))
-      × IfErr answer (λ refusal. refusal.status ≡ exit.changed → ⊥)
+      × (HavePlannedRoots planned.plan (sources_in files (paths_of definitions.list))
+      → IfErr answer (λ refusal. refusal.status ≡ exit.changed → ⊥))
 
   exact_of : (bytes : List ℕ) → disk.first ≡ Some bytes → (files : List Stored) → sources.told ≡ Some files
       → calls ≡ calls_for planned.plan planned.seen (Given list files)

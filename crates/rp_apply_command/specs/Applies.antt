@@ -1,6 +1,8 @@
 -- What `apply` does, stage by stage: the definitions are read, the disk is synced, what is to become of the image is planned, all
 -- memory is taken, the plan is carried out, and it is told.
 use Rattle.std.specs.Prelude.{ℕ, ◌≡◌, ◌≢◌, ◌⊎◌, List, [], ◌∷◌, Any, Bool, true, length, Result, Ok, Err, IfOk, IfSome, IfErr}
+use Rattle.rp_apply.specs.Called.{AreCallsFor}
+use Rattle.rp_apply.specs.Commits.{HavePlannedRoots}
 use Rattle.rp_apply.specs.Sourced.{paths_of}
 use Rattle.rp_step.specs.Sourced.{sources_in}
 use Rattle.rp_base.specs.Plan.{Noted, noted_of}
@@ -29,7 +31,6 @@ use Rattle.rp_steps.specs.Calls.{calls as calls_for}
 use Rattle.rp_steps.specs.Contents.{NotesFit}
 use Rattle.rp_steps.specs.Steps.{steps}
 use Rattle.rp_steps.specs.Writes.{writes}
-use Rattle.rp_apply.specs.Called.{AreCallsFor}
 
 -- an answer that is done or refused, and tells no more
 abbrev pub Outcome : Type 0
@@ -66,7 +67,7 @@ pub record HasCommitCauses (disk later : Device) (sources drained : Store (List 
   pub of_sources : HasStageCause source_refusal sources.faults drained.faults answer
 
 -- these calls carry out the plan, whatever bytes sources that don't tell have; where disk and sources tell, they are those of its
--- steps, and the root of no pair has changed. They were all made, or the first of them
+-- steps, and no source has changed where each pair is planned with the root hash of its source. They were all made, or the first of them
 pub record CarriesOut (definitions : Definitions) (planned : Planned) (disk later : Device) (sources drained : Store (List Stored))
     (calls : List Call) (answer : Outcome) : Type 0 where
   pub first : later.first ≡ disk.first
@@ -74,7 +75,7 @@ pub record CarriesOut (definitions : Definitions) (planned : Planned) (disk late
   pub are : AreCallsFor planned.seen planned.plan calls
   pub exact : IfSome (history disk) (λ h. IfSome sources.told (λ files.
       (calls ≡ calls_for planned.plan planned.seen (sources_in files (paths_of definitions.list)))
-      × IfErr answer (λ refusal. refusal.status ≢ exit.changed)))
+      × (HavePlannedRoots planned.plan (sources_in files (paths_of definitions.list)) → IfErr answer (λ refusal. refusal.status ≢ exit.changed))))
   pub ran : Runs disk.calls calls later.calls answer
   pub strays : IfSome (history disk) (λ h. later.strays ≡ disk.strays)
   pub refusal : IfErr answer (IsCommitRefusal planned)
