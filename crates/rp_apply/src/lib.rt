@@ -7,6 +7,7 @@ mod paths;
 mod ready;
 
 pub use carrying::{Done, commit};
+pub use numbers::plan_fits;
 pub use ready::{Ready, prepare};
 pub use rp_step::ApplyFault;
 

@@ -6,7 +6,7 @@ ghost use Rattle.rp_steps.specs.Contents.{NotesFit, RoleFits};
 
 use rp_base::{Guid, Note, Plan, Role, Row, Table};
 
-// Those of a goal and of its notes.
+/// The numbers of a plan are within their fields, as those of each value of its type: a clause sees them once they are read.
 pub fn plan_fits(plan: &Plan)
     ensures table { TableFits plan.now.goal }
     ensures notes { NotesFit plan.now }

@@ -1,5 +1,5 @@
 -- Where a source has changed while a plan is carried out, the planned root hash is that of a pair of the plan.
-use Rattle.std.proofs.Common.{◌≡◌, ◌≢◌, ℕ, suc, ◌+◌, ◌*◌, ◌⊎◌, inl, inr, List, [], ◌∷◌, refl, sym, subst, arith, All}
+use Rattle.std.proofs.Common.{◌≡◌, ◌≢◌, ℕ, suc, ◌+◌, ◌*◌, ◌⊎◌, inl, inr, List, [], ◌∷◌, ◌++◌, refl, sym, subst, arith, All}
 use Rattle.std.specs.Prelude.{Any}
 use Rattle.std.proofs.lemmas.List.Elements.{All-cons, All-nil}
 use Rattle.rp_base.specs.Plan.{IsWellFormed, Noted, noted_of}
@@ -46,18 +46,18 @@ other_plans found planned copied old new HeaderBackup other = absurd other
 other_plans found planned copied old new Mbr other = absurd other
 other_plans found planned copied old new Sync other = absurd other
 
-any_later : (P : Step → Type 0) (step : Step) (steps : List Step) → Any P steps → Any P (step ∷ steps)
-any_later P step steps any = (suc any.0, any.1, let below = any.2 in omega arith, any.3, any.4)
+any_later : (P : Step → Type 0) (step : Step) (rest : List Step) → Any P rest → Any P (step ∷ rest)
+any_later P step rest any = (suc any.0, any.1, let below = any.2 in omega arith, any.3, any.4)
 
-stops_plans : (plan : Plan) (founds : List Found) (planned copied : List ℕ) (old new : List Made) (steps : List Step)
-    → StopsAtRoot plan founds planned copied old new steps → Any (Plans planned) steps × (copied ≢ planned)
-stops_plans plan [] planned copied old new steps stops = absurd stops
+stops_plans : (plan : Plan) (founds : List Found) (planned copied : List ℕ) (old new : List Made) (made : List Step)
+    → StopsAtRoot plan founds planned copied old new made → Any (Plans planned) made × (copied ≢ planned)
+stops_plans plan [] planned copied old new made stops = absurd stops
 stops_plans plan (found ∷ founds) planned copied old new [] stops = absurd stops
-stops_plans plan (found ∷ founds) planned copied old new (step ∷ steps) (inl here) =
+stops_plans plan (found ∷ founds) planned copied old new (step ∷ made) (inl here) =
     let other = other_plans found planned copied old new step here in ((0, step, omega arith, refl, other.0), other.1)
-stops_plans plan (found ∷ founds) planned copied old new (step ∷ steps) (inr later) =
-    let rest = stops_plans plan founds planned copied (old ++ dones (calls_with plan found step)) new steps later.1 in
-    (any_later (Plans planned) step steps rest.0, rest.1)
+stops_plans plan (found ∷ founds) planned copied old new (step ∷ made) (inr later) =
+    let rest = stops_plans plan founds planned copied (old ++ dones (calls_with plan found step)) new made later.1 in
+    (any_later (Plans planned) step made rest.0, rest.1)
 
 of_range : (plan : Plan) (low high : ℕ) → OfRange (IsOfRow plan) low high
 of_range plan low high = record { zero = λ at len some from to. tt; copy = λ file at len some from to. tt }

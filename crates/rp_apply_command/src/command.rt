@@ -11,7 +11,7 @@ ghost use Rattle.rp_planned.specs.declared.planned.Planned.{Planned as Aim};
 ghost use Rattle.rp_apply_command.specs.Applies.{Applies, AppliesOpened, AppliesPlanned, Commits, PlanFits, applied_report};
 ghost use Rattle.rp_apply_command.specs.Carrying.{CanPrepare, HasSeenLength};
 
-use rp_apply::{ApplyFault, Ready, commit, prepare};
+use rp_apply::{ApplyFault, Ready, commit, plan_fits, prepare};
 use rp_base::{Failed, Memory, Text};
 use rp_defs::Definitions;
 use rp_disk::Disk;
@@ -106,8 +106,7 @@ fn apply_planned<D: Disk, S: Sources, K: Sink>(
     }
 }
 
-// All memory for carrying out a plan, and its text. As of each value of the type, the numbers of a plan are within their fields.
-#[tactic(auto, using(rp_plan_command::proofs::Noted::as_many))]
+// All memory for carrying out a plan, and its text.
 fn prepared(
     alloc: Global,
     json: bool,
@@ -120,6 +119,7 @@ fn prepared(
     ensures text { IfOk result (λ made. made.1 ≡ applied_report json definitions.now planned.now) }
 {
     let plan = &planned.plan;
+    plan_fits(plan);
     let ready = prepare(
         alloc,
         plan,
