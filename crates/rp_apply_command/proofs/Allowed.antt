@@ -52,16 +52,16 @@ sourced_by defs (f ∷ facts) [] file fact same each found = absurd (cc)
 sourced_by defs (f ∷ facts) (need ∷ needs) file fact same each found =
     by (f.file == file) refl found
     (λ e. sourced_by defs facts needs file fact tail_is (All-tail (IsSourced defs) need needs each) e) where
-  head_is : f.file ≡ need.file
-  head_is = cc
+      head_is : f.file ≡ need.file
+      head_is = cc
 
-  tail_is : map (λ (f : Fact). f.file) facts ≡ map (λ (n : Need). n.file) needs
-  tail_is = cc
+      tail_is : map (λ (f : Fact). f.file) facts ≡ map (λ (n : Need). n.file) needs
+      tail_is = cc
 
-  by : (b : Bool) → (f.file == file) ≡ b → cond b (Some f) (fact_of facts file) ≡ Some fact
-      → (fact_of facts file ≡ Some fact → HasSource defs file) → HasSource defs file
-  by true is e later = subst (HasSource defs) (sym head_is ∙ eqb-true f.file file is) (All-head (IsSourced defs) need needs each)
-  by false is e later = later e
+      by : (b : Bool) → (f.file == file) ≡ b → cond b (Some f) (fact_of facts file) ≡ Some fact
+          → (fact_of facts file ≡ Some fact → HasSource defs file) → HasSource defs file
+      by true is e later = subst (HasSource defs) (sym head_is ∙ eqb-true f.file file is) (All-head (IsSourced defs) need needs each)
+      by false is e later = later e
 
 module _ (seen : Seen) (defs : List Definition) (facts : List Fact) (seed : Guid) (are : AreFactsOn (wanted_of seen.shown defs) facts) where
   old_named : (goal : List Row) (rows : List (ℕ × Row)) → All (NamesSource defs) (map (old_note (matched_of seen.shown defs) goal) rows)

@@ -120,12 +120,7 @@ fn prepared(
 {
     let plan = &planned.plan;
     plan_fits(plan);
-    let ready = prepare(
-        alloc,
-        plan,
-        &planned.seen,
-        definitions.list.as_slice(),
-    )?;
+    let ready = prepare(alloc, plan, &planned.seen, definitions.list.as_slice())?;
     let (steps, writes) = (ready.steps(), ready.writes());
     let text = plan_text(alloc, json, plan, definitions, steps, writes, true)?;
     Ok((ready, text))

@@ -24,11 +24,14 @@ apply_planned-requires-clause-len g c =
     c.in-Ok.planned c.requires.sector (rw c.as_slice-list.ensures at c.in-Ok.ensures.plans)
 
 pub returns-in-Err : goal.returns-in-Err
-returns-in-Err g c = ([], (
-  device g.D.Disk.first g.D.Disk.calls g.D.Disk.faults g.D.Disk.strays c.plan_image.new.disk,
-  store g.S.Sources.told g.S.Sources.faults g.S.Sources.strays c.plan_image.new.sources,
-  Err (unplanned_refusal c.args.definitions.now.list c.in-Err.cause),
-  rw c.as_slice-list.ensures at c.in-Err.ensures.plans,
-  tt,
-  (refl, refl, refl, rw (c.unplanned_refusal.ensures, c.as_slice-list.ensures) at c.refuse.ensures),
-))
+returns-in-Err g c = (
+  [],
+  (
+    device g.D.Disk.first g.D.Disk.calls g.D.Disk.faults g.D.Disk.strays c.plan_image.new.disk,
+    store g.S.Sources.told g.S.Sources.faults g.S.Sources.strays c.plan_image.new.sources,
+    Err (unplanned_refusal c.args.definitions.now.list c.in-Err.cause),
+    rw c.as_slice-list.ensures at c.in-Err.ensures.plans,
+    tt,
+    (refl, refl, refl, rw (c.unplanned_refusal.ensures, c.as_slice-list.ensures) at c.refuse.ensures),
+  ),
+)
