@@ -1,20 +1,17 @@
 -- Whatever sources and data rows hold, the calls of steps write as many bytes at the same places.
-use Rattle.std.proofs.Common.{◌≡◌, ℕ, zero, suc, ◌+◌, ◌*◌, List, [], ◌∷◌, ◌++◌, length, get_or, map, replicate, refl, sym, ap, ◌∙◌, subst, arith, All}
+use Rattle.std.proofs.Common.{◌≡◌, ℕ, zero, suc, ◌+◌, ◌*◌, List, [], ◌∷◌, ◌++◌, length, map, replicate, refl, sym, ap, ◌∙◌, subst, arith, All}
 use Rattle.std.specs.List.{range_with_len}
 use Rattle.std.specs.Prelude.{slice_index_or}
-use Rattle.std.proofs.lemmas.List.{length-map}
 use Rattle.std.proofs.lemmas.List.FromFn.{length-map-range_with_len}
 use Rattle.std.proofs.lemmas.List.Elements.{All-head, All-tail}
 use Rattle.rp_base.specs.Image.{bytes_at}
 use Rattle.rp_base.specs.Trees.{levels}
-use Rattle.rp_base.specs.declared.guid.Guid.{Guid}
 use Rattle.rp_base.specs.declared.plan.Plan.{Plan}
 use Rattle.rp_disk.specs.Calls.{resized}
 use Rattle.rp_disk.specs.Made.{Made, dones}
 use Rattle.rp_disk.specs.declared.call.Call.{Call}
 use Rattle.rp_disk.specs.declared.call.Call.TheVariants.{Write, Sync as SyncCall, SetLen}
 use Rattle.rp_disk.proofs.Agreeing.{length-resized}
-use Rattle.rp_format.specs.Written.{AreBlocks}
 use Rattle.rp_format.proofs.Places.{length-tree, tree_blocks}
 use Rattle.rp_step.specs.Found.{AreFound, Found, IsFound, Outside, all_calls, calls_with}
 use Rattle.rp_steps.specs.Calls.{calls_of, calls_of_steps, in_pieces, tree_writes}

@@ -1,5 +1,5 @@
 -- Whatever sources and data rows hold, the calls of a plan's steps are those that the law of every stop speaks of.
-use Rattle.std.proofs.Common.{◌≡◌, ◌≢◌, ℕ, ◌+◌, ◌*◌, ◌-◌, ◌<◌, ◌≤◌, Bool, true, false, ltb, List, [], ◌∷◌, ◌++◌, length, filter, flat_map, map, replicate, refl, sym, ap, ap₂, ◌∙◌, subst, arith, All, append_assoc}
+use Rattle.std.proofs.Common.{◌≡◌, ℕ, ◌+◌, ◌*◌, ◌≤◌, Bool, true, false, ltb, List, [], ◌∷◌, ◌++◌, length, filter, flat_map, map, replicate, refl, sym, ap, ap₂, ◌∙◌, subst, arith, All, append_assoc}
 use Rattle.std.proofs.lemmas.List.{append-nil, length-replicate}
 use Rattle.std.proofs.lemmas.List.Elements.{All-append, All-cons, All-head, All-nil, All-tail}
 use Rattle.rp_base.specs.Plan.{IsWellFormed, Noted, noted_of}

@@ -1,5 +1,5 @@
 -- The clauses of `commit`, from what is known of the calls.
-use Rattle.std.proofs.Common.{◌≡◌, ℕ, ◌*◌, List, length, Option, Some, None, Result, Ok, Err, OnOk, refl, sym, ◌∙◌, subst}
+use Rattle.std.proofs.Common.{◌≡◌, ℕ, ◌*◌, List, length, Option, Some, None, Result, Ok, Err, OnOk, refl, sym, subst}
 use Rattle.std.specs.Prelude.{IfSome}
 use Rattle.std.specs.Prelude.{All, Any}
 use Rattle.rp_base.specs.Plan.{noted_of}

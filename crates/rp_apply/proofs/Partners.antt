@@ -1,5 +1,5 @@
 -- The data row under the tree of a well formed plan.
-use Rattle.std.proofs.Common.{◌≡◌, ◌≢◌, ℕ, zero, suc, ◌+◌, ◌*◌, ◌/◌, ◌%◌, ◌<◌, ◌≤◌, ◌⊎◌, inl, inr, Bool, true, false, eqb, List, [], ◌∷◌, length, get_or, Option, Some, refl, sym, ap, ◌∙◌, subst, arith, find}
+use Rattle.std.proofs.Common.{◌≡◌, ◌≢◌, ℕ, zero, suc, ◌*◌, ◌/◌, ◌<◌, ◌≤◌, inl, inr, Bool, true, false, eqb, List, [], ◌∷◌, length, get_or, Option, Some, refl, sym, ap, ◌∙◌, subst, arith, find}
 use Rattle.std.specs.Option.{option_map_or}
 use Rattle.std.proofs.lemmas.Bool.{eq-eqb, ne_eqb}
 use Rattle.std.proofs.lemmas.List.{get_or-map}
@@ -15,7 +15,7 @@ use Rattle.rp_base.specs.declared.seen.Seen.{Seen}
 use Rattle.rp_base.specs.declared.table.Row.{Row}
 use Rattle.rp_steps.specs.Contents.{Sources, payload, payload_at}
 use Rattle.rp_steps.specs.Steps.{byte_count, byte_of_slot, from_byte}
-use Rattle.rp_steps.proofs.Planned.{length-noted_of, one_note, writable}
+use Rattle.rp_steps.proofs.Planned.{length-noted_of, one_note}
 
 -- the first that passes
 pub find_at_place : {X : Type 0} (test : X → Bool) (xs : List X) (k : ℕ) (d : X) → k < length xs → test (get_or xs k d) ≡ true

@@ -1,4 +1,4 @@
-//! The numbers of a plan are within their fields, as those of each value of the type: a clause sees them once they are read.
+//! The numbers of a plan, read once.
 
 ghost use Rattle.std.specs.Prelude.{◌≡◌, ◌<◌, ◌^◌, All, length};
 ghost use Rattle.rp_base.specs.Table.{RowFits, TableFits};
