@@ -11,3 +11,5 @@ mod layout;
 mod place;
 #[cfg(test)]
 mod share;
+#[cfg(test)]
+mod sizes;
