@@ -1,11 +1,11 @@
-//! `repart`: shows and plans the partition table of a raw disk image, and judges it by an image policy.
+//! `repart`: shows, plans and changes the partition table of a raw disk image, and judges it by an image policy.
 #![tactic(auto)]
 
 use rp_cli::run;
 use rp_disk::FileDisk;
 use rp_io::{HostFolders, HostSink, HostSources};
 use rp_outcome::{MEMORY, WORDS, finish};
-use rp_words::{has_image, help_text, hint_of};
+use rp_words::{Command, has_image, help_text, hint_of, read_line};
 use std::io::{self, ErrorKind};
 use std::os::unix::fs::MetadataExt;
 use std::process::ExitCode;
@@ -51,9 +51,13 @@ fn print_help(rt: &HostRuntime) -> u8 {
     }
 }
 
-// Does what the words ask for. Each command that is built reads alone, so the image is opened for that alone.
+// Does what the words ask for. The image is opened for reading alone, but by the one command that changes it.
 fn run_words(rt: &HostRuntime, words: &[String]) -> u8 {
-    let mut disk = FileDisk::open_to_read(rt, image_of(rt, words));
+    let path = image_of(rt, words);
+    let mut disk = match read_line(words) {
+        Ok(line) if line.command == Command::Apply => FileDisk::open(rt, path),
+        _ => FileDisk::open_to_read(rt, path),
+    };
     let mut folders = HostFolders::new(rt);
     let mut sources = HostSources::new(rt);
     let mut out = HostSink::new(rt);

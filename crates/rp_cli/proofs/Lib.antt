@@ -1,2 +1,4 @@
+pub mod Applied
+pub mod Applying
 pub mod Policies
 pub mod Promised

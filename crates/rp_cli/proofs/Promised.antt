@@ -15,7 +15,7 @@ use Rattle.rp_show.proofs.Statuses.{by_status as show_by_status}
 use Rattle.rp_show.specs.Shows.{Shows}
 
 -- two numbers that differ are no one status
-clash : {P : Type 0} (status a b : ℕ) → status ≡ a → status ≡ b → (a ≡ b → ⊥) → P
+pub clash : {P : Type 0} (status a b : ℕ) → status ≡ a → status ≡ b → (a ≡ b → ⊥) → P
 clash status a b e f differ = absurd (differ (sym e ∙ f))
 
 -- a disk that wasn't asked was read alone

@@ -43,7 +43,7 @@ show json sector = line Show X86_64 json sector
 no_words : line_of [] ≡ Err NoCommand
 no_words = refl
 
-a_command_that_is_not_built : line_of (codes "apply" ∷ codes "image" ∷ []) ≡ Err UnknownCommand
+a_command_that_is_not_built : line_of (codes "check" ∷ codes "image" ∷ []) ≡ Err UnknownCommand
 unfolding command_of commands
 a_command_that_is_not_built = refl
 
@@ -189,7 +189,7 @@ help_on_compare : command_in_help (codes "compare")
 unfolding command_in_help commands command_text built_text options
 help_on_compare = refl
 
-help_on_a_command_that_is_not_built : command_in_help (codes "apply") ≡ []
+help_on_a_command_that_is_not_built : command_in_help (codes "check") ≡ []
 unfolding command_in_help commands command_text
 help_on_a_command_that_is_not_built = refl
 

@@ -1,5 +1,5 @@
 use Rattle.std.proofs.Common.{inl, inr, map, string_bytes, subst, sym, true≢false}
-use Rattle.std.specs.Prelude.{IsErr}
+use Rattle.std.specs.Prelude.{◌≢◌, IfOk, IsErr}
 use Rattle.rp_cli.proofs.Policies.{compare_causes, compare_files, compare_words, dissect_causes, dissect_files, policy_causes, policy_files}
 use Rattle.rp_cli.proofs.Promised.{plan_causes, plan_files}
 use Rattle.rp_cli.specs.Asked.{request_of}
@@ -9,6 +9,7 @@ use Rattle.rp_outcome.specs.Store.{store}
 use Rattle.rp_words.proofs.Built.{asks_for}
 use Rattle.rp_words.specs.Line.{text_in}
 use Rattle.rp_words.specs.Values.{paths_of}
+use Rattle.rp_words.specs.declared.table.Command.TheVariants.{Apply}
 use Rattle.rp_words.specs.declared.table.Opt.TheVariants.{Against, Definitions, Policy}
 use Rattle.rp_cli.proofs.commands.run.Goals as goal
 
@@ -110,13 +111,31 @@ returns-in-Compare-clause-words g c = (
   λ err. absurd (true≢false (sym (subst (λ answer. IsErr answer) (sym c.in-Ok.ensures.line) err))),
 )
 
+-- `apply` says of itself what holds of every command
+pub returns-in-Apply-clause-causes : goal.returns-in-Apply-clause-causes
+returns-in-Apply-clause-causes g c = c.run_apply.ensures.holds.causes
+
+pub returns-in-Apply-clause-files : goal.returns-in-Apply-clause-files
+returns-in-Apply-clause-files g c = c.run_apply.ensures.holds.files
+
+pub returns-in-Apply-clause-words : goal.returns-in-Apply-clause-words
+returns-in-Apply-clause-words g c = (
+  λ e. absurd (c.run_apply.ensures.holds.words e),
+  λ err. absurd (true≢false (sym (subst (λ answer. IsErr answer) (sym c.in-Ok.ensures.line) err))),
+)
+
+pub returns-in-Apply-clause-only_read : goal.returns-in-Apply-clause-only_read
+returns-in-Apply-clause-only_read g c =
+    λ other. absurd (subst (λ answer. IfOk answer (λ line. line.command ≢ Apply)) (sym c.in-Ok.ensures.line) other c.in-Apply.is)
+
 -- no line asks for another command
 pub returns-in_default : goal.returns-in_default
 returns-in_default g c = elim (asks_for (map string_bytes c.args.words.now) c.in-Ok.line (sym c.in-Ok.ensures.line)) [
   | inl show ↦ absurd (c.in_default.not-Show show)
   | inr (inl plan) ↦ absurd (c.in_default.not-Plan plan)
-  | inr (inr (inl dissect)) ↦ absurd (c.in_default.not-Dissect dissect)
-  | inr (inr (inr (inl policy))) ↦ absurd (c.in_default.not-Policy policy)
-  | inr (inr (inr (inr (inl compare)))) ↦ absurd (c.in_default.not-Compare compare)
-  | inr (inr (inr (inr (inr none)))) ↦ absurd none
+  | inr (inr (inl apply)) ↦ absurd (c.in_default.not-Apply apply)
+  | inr (inr (inr (inl dissect))) ↦ absurd (c.in_default.not-Dissect dissect)
+  | inr (inr (inr (inr (inl policy)))) ↦ absurd (c.in_default.not-Policy policy)
+  | inr (inr (inr (inr (inr (inl compare))))) ↦ absurd (c.in_default.not-Compare compare)
+  | inr (inr (inr (inr (inr (inr none))))) ↦ absurd none
 ]

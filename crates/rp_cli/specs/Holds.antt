@@ -1,0 +1,17 @@
+-- What holds at the exit status of every command.
+use Rattle.std.specs.Prelude.{ℕ, ◌≢◌, List}
+use Rattle.rp_io.specs.Files.{Tree}
+use Rattle.rp_io.specs.declared.stored.Stored.{Stored}
+use Rattle.rp_outcome.specs.Causes.{HasCauses}
+use Rattle.rp_outcome.specs.Device.{Device}
+use Rattle.rp_outcome.specs.Output.{Output}
+use Rattle.rp_outcome.specs.Statuses as exit
+use Rattle.rp_outcome.specs.Store.{Store}
+use Rattle.rp_planned.specs.Files.{HasFileCauses}
+
+-- a failure has its status and none is passed over where the command is done; canonical words aren't refused
+pub record Holds (folders gone : Store Tree) (disk later : Device) (sources drained : Store (List Stored)) (out after : Output) (status : ℕ)
+    : Type 0 where
+  pub causes : HasCauses disk later out after status
+  pub files : HasFileCauses folders gone sources drained out after status
+  pub words : status ≢ exit.words
