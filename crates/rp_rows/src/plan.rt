@@ -10,14 +10,14 @@ use std::alloc::Global;
 use std::process::Abort;
 use std::test::Fail;
 
-const MIB: usize = 1 << 20;
+pub const MIB: usize = 1 << 20;
 
 // The first byte of the primary header's checksum.
 const CHECKSUM: usize = 512 + 16;
 
-const SEEDED: &str = "plan --definitions=d --seed=00000000-0000-0000-0000-000000000001";
+const SEEDED: &str = "--definitions=d --seed=00000000-0000-0000-0000-000000000001";
 
-const TWO_WEIGHTS: &str =
+pub const TWO_WEIGHTS: &str =
     "plan target 131072 usable 2048-131038 disk 5604b68e-37df-48a8-a451-502e27e8ed09
 0 new a.conf linux-generic start 2048 size 42992 id 0f6335f7-f5f3-4f84-b2b1-48862cde1d53 attrs 0000000000000000 name \"linux-generic\"
 1 new b.conf linux-generic start 45040 size 85992 id aedfb21e-6a45-4cbf-a80f-61b151a39a08 attrs 0000000000000000 name \"linux-generic\"
@@ -28,7 +28,7 @@ steps 19 writes 23
 const IN_JSON: &str =
     "{\"disk\":\"5604b68e-37df-48a8-a451-502e27e8ed09\",\"dropped\":[],\"ignored\":0,\"rows\":[{\"attrs\":\"0000000000000000\",\"change\":\"new\",\"file\":\"a.conf\",\"id\":\"0f6335f7-f5f3-4f84-b2b1-48862cde1d53\",\"name\":\"linux-generic\",\"size\":42992,\"slot\":0,\"start\":2048,\"type\":\"linux-generic\"},{\"attrs\":\"0000000000000000\",\"change\":\"new\",\"file\":\"b.conf\",\"id\":\"aedfb21e-6a45-4cbf-a80f-61b151a39a08\",\"name\":\"linux-generic\",\"size\":85992,\"slot\":1,\"start\":45040,\"type\":\"linux-generic\"}],\"steps\":19,\"target\":131072,\"usable\":[2048,131038],\"writes\":23}\n";
 
-const OF_4096: &str =
+pub const OF_4096: &str =
     "plan target 131072 usable 2048-131031 disk 5604b68e-37df-48a8-a451-502e27e8ed09
 0 new a.conf linux-generic start 2048 size 42992 id 0f6335f7-f5f3-4f84-b2b1-48862cde1d53 attrs 0000000000000000 name \"linux-generic\"
 1 new b.conf linux-generic start 45040 size 85992 id aedfb21e-6a45-4cbf-a80f-61b151a39a08 attrs 0000000000000000 name \"linux-generic\"
@@ -75,20 +75,21 @@ ignored 0
 steps 0 writes 0
 ";
 
-const GROWN: &str = "plan target 262144 usable 2048-262110 disk aaaaaaaa-bbbb-4ccc-8ddd-eeeeeeeeeeee
+pub const GROWN: &str =
+    "plan target 262144 usable 2048-262110 disk aaaaaaaa-bbbb-4ccc-8ddd-eeeeeeeeeeee
 0 changed a.conf linux-generic start 2048 size 260056 id 11111111-2222-4333-8444-555555555555 attrs 0000000000000000 name \"EFI\"
 ignored 0
 steps 16 writes 7
 ";
 
-const REPAIRED: &str =
+pub const REPAIRED: &str =
     "plan target 131072 usable 2048-131038 disk aaaaaaaa-bbbb-4ccc-8ddd-eeeeeeeeeeee
 0 same - esp start 2048 size 20480 id 11111111-2222-4333-8444-555555555555 attrs 0000000000000000 name \"EFI\"
 ignored 0
 steps 6 writes 3
 ";
 
-const ESP_64_MIB: Numbers = Numbers {
+pub const ESP_64_MIB: Numbers = Numbers {
     sector: 512,
     entries: 128,
     end: 131_071,
@@ -112,7 +113,7 @@ const SWAP_ROW: Numbers = Numbers {
     ..ESP_64_MIB
 };
 
-const WHOLE_ROW: Numbers = Numbers {
+pub const WHOLE_ROW: Numbers = Numbers {
     kind: LINUX,
     start: 2048,
     stop: 131_038,
@@ -129,7 +130,7 @@ const SMALL_ROW: Numbers = Numbers {
 };
 
 #[derive(Clone, Copy)]
-enum Image {
+pub enum Image {
     Blank(usize),
     Table(Numbers),
     // with a bit of the primary copy turned
@@ -137,21 +138,21 @@ enum Image {
 }
 
 #[derive(Clone, Copy)]
-struct Case {
+pub struct Case {
     // the texts of a.conf and of b.conf behind the line of the section; none where empty
-    a: &'static str,
-    b: &'static str,
-    image: Image,
-    options: &'static str,
+    pub a: &'static str,
+    pub b: &'static str,
+    pub image: Image,
+    pub options: &'static str,
     // the bytes of the source s.raw
-    source: usize,
+    pub source: usize,
     // which call of the folders, of the disk, of the sources and of the sink fails
-    fails: (u64, u64, u64, u64),
-    status: u8,
-    printed: &'static str,
+    pub fails: (u64, u64, u64, u64),
+    pub status: u8,
+    pub printed: &'static str,
 }
 
-const BLANK: Case = Case {
+pub const BLANK: Case = Case {
     a: "Type=linux-generic\nWeight=1000\n",
     b: "Type=linux-generic\nWeight=2000\n",
     image: Image::Blank(64 * MIB),
@@ -348,7 +349,7 @@ fn check<R: Abort + AllocGlobal>(rt: &R, case: Case) -> Result<(), Fail> {
     let mut folders = folder(alloc, files.as_slice(), folders_fail)?;
     let mut sources = source(alloc, case.source, sources_fail)?;
     let mut out = MemSink::new(alloc, call(alloc, sink_fails)?);
-    let words = words_of(alloc, case.options)?;
+    let words = words_of(alloc, "plan", case.options)?;
     let status = run(
         alloc,
         words.as_slice(),
@@ -363,7 +364,7 @@ fn check<R: Abort + AllocGlobal>(rt: &R, case: Case) -> Result<(), Fail> {
     Ok(())
 }
 
-fn image_of(alloc: Global, image: Image) -> Result<Vec<u8>, Fail> {
+pub fn image_of(alloc: Global, image: Image) -> Result<Vec<u8>, Fail> {
     match image {
         Image::Blank(len) => Ok(vec![in alloc; 0u8; len]?),
         Image::Table(numbers) => esp_image(alloc, numbers),
@@ -377,7 +378,7 @@ fn image_of(alloc: Global, image: Image) -> Result<Vec<u8>, Fail> {
     }
 }
 
-fn files_of(alloc: Global, case: Case) -> Result<Vec<(&'static str, String)>, Fail> {
+pub fn files_of(alloc: Global, case: Case) -> Result<Vec<(&'static str, String)>, Fail> {
     let mut files = Vec::new(alloc);
     for (path, lines) in [("d/a.conf", case.a), ("d/b.conf", case.b)] {
         if !lines.is_empty() {
@@ -389,8 +390,10 @@ fn files_of(alloc: Global, case: Case) -> Result<Vec<(&'static str, String)>, Fa
     Ok(files)
 }
 
-fn words_of(alloc: Global, options: &str) -> Result<Vec<String>, Fail> {
-    let mut text = String::from_str(alloc, SEEDED)?;
+pub fn words_of(alloc: Global, command: &str, options: &str) -> Result<Vec<String>, Fail> {
+    let mut text = String::from_str(alloc, command)?;
+    text.push(' ')?;
+    text.push_str(SEEDED)?;
     text.push(' ')?;
     text.push_str(options)?;
     text.push_str(" image")?;
