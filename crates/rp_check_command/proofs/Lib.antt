@@ -1,0 +1,5 @@
+mod Printed
+mod Sighted
+mod Planned
+mod Ended
+pub mod Statuses

@@ -1,0 +1,12 @@
+//! The command `check`: compares an image with its definitions down to the last digest, and prints the first difference.
+#![tactic(auto)]
+
+mod command;
+mod law;
+mod printing;
+#[cfg(test)]
+mod tests;
+
+pub use command::check;
+pub use law::check_by_status;
+pub use printing::DIFFERS;
