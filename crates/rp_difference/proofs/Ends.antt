@@ -6,7 +6,7 @@ use Rattle.rp_base.specs.Geometry.{IsSector, sector_units, usable_end}
 use Rattle.rp_base.specs.declared.seen.Seen.{Seen}
 use Rattle.rp_base.specs.declared.table.Row.{Row}
 use Rattle.rp_gpt.specs.Accepted.{IsSeen}
-use Rattle.rp_tree.specs.Reads.{end_of}
+use Rattle.rp_tree.specs.Reads.{end_of, ends_of}
 use Rattle.rp_types.specs.declared.arch.Arch.{Arch}
 use Rattle.rp_types.specs.declared.arch.Designator.{Designator}
 use Rattle.rp_verdict.specs.Rows.{may_be, row_of, tree_of, tree_row}
@@ -50,5 +50,9 @@ tree_ends arch seen d is = go (tree_of d) where
   go (Some tree) = row_ends arch seen tree is
 
 -- a row that was found is that one
-pub found_ends : (units : ℕ) (o p : Option Row) (row : Row) → o ≡ p → p ≡ Some row → IfSome o (EndsIn units) → EndsIn units row
-found_ends units o p row e f ends = let here : IfSome (Some row) (EndsIn units) = rw (e, f) at ends in here
+pub found_ends : (units : ℕ) (o : Option Row) (row : Row) → o ≡ Some row → IfSome o (EndsIn units) → EndsIn units row
+found_ends units o row e ends = let here : IfSome (Some row) (EndsIn units) = rw e at ends in here
+
+-- two rows end where the later one does
+pub both_end : (units : ℕ) (payload hash : Row) → EndsIn units payload → EndsIn units hash → ends_of payload hash ≤ 512 * units
+both_end units payload hash a b = omega (arith, a.0, b.0)

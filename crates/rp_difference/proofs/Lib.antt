@@ -1,1 +1,3 @@
+mod Differing
 mod Ends
+mod Finding
