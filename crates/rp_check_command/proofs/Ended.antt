@@ -16,7 +16,7 @@ use Rattle.rp_outcome.specs.Device.{Device, IsOnlyRead, history}
 use Rattle.rp_outcome.specs.Output.{Output, Finishes, Prints, PrintsPart, Refuses}
 use Rattle.rp_outcome.specs.Refusals.{Refusal, disk_refusal, line_of, memory_refusal}
 use Rattle.rp_outcome.specs.Store.{Store}
-use Rattle.rp_plan_command.proofs.Ended.{not_done, not_refused}
+use Rattle.rp_plan_command.proofs.Ended.{not_refused}
 use Rattle.rp_plan_command.specs.Statuses.{ByStatus, IsRefused, WhereTold, told_plan}
 use Rattle.rp_planned.specs.declared.planned.Planned.{Planned}
 use Rattle.rp_reading.specs.Stages.{and_then}
@@ -31,6 +31,12 @@ pub not_one : {P : Type 0} (n : ℕ) → IsRefused n → n ≡ 1 → P
 not_one n (inl e) same = absurd (omega (arith, e, same))
 not_one n (inr (inl e)) same = absurd (omega (arith, e, same))
 not_one n (inr (inr e)) same = absurd (omega (arith, e, same))
+
+-- nor 0
+not_done : {P : Type 0} (n : ℕ) → IsRefused n → n ≡ 0 → P
+not_done n (inl e) same = absurd (omega (arith, e, same))
+not_done n (inr (inl e)) same = absurd (omega (arith, e, same))
+not_done n (inr (inr e)) same = absurd (omega (arith, e, same))
 
 -- want of memory prints nothing
 pub nothing_printed : (out after : Output) (refusal : Refusal) (status : ℕ) → Refuses out after refusal status → status ≡ 10 → Prints out after []
@@ -77,7 +83,7 @@ module _ (seed : Guid) (arch : Arch) (sector : ℕ) (dirs : List (List ℕ)) (fo
     files = known.files;
     one_of = go known.one_of;
     same = λ f. absurd (not_0 f);
-    differs = λ f. absurd (not_1 f);
+    other = λ f. absurd (not_1 f);
     kept = λ f. absurd (not_1 f);
     cut = λ f. absurd (not_9 f);
     refused = λ f.
@@ -111,7 +117,7 @@ module _ (seed : Guid) (arch : Arch) (sector : ℕ) (dirs : List (List ℕ)) (fo
       files = record { failed = λ f. clash status 7 8 e f (λ h. omega arith); kept = λ f. clash status 7 0 e f (λ h. omega arith) };
       one_of = inr (inr (inr (inl e)));
       same = λ f. clash status 7 0 e f (λ h. omega arith);
-      differs = λ f. clash status 7 1 e f (λ h. omega arith);
+      other = λ f. clash status 7 1 e f (λ h. omega arith);
       kept = λ f. clash status 7 1 e f (λ h. omega arith);
       cut = λ f. clash status 7 9 e f (λ h. omega arith);
       refused = λ f. not_refused status 7 f e (omega arith);
@@ -132,7 +138,7 @@ module _ (seed : Guid) (arch : Arch) (sector : ℕ) (dirs : List (List ℕ)) (fo
       files = record { failed = λ f. clash status 10 8 e f (λ h. omega arith); kept = λ f. clash status 10 0 e f (λ h. omega arith) };
       one_of = inr (inr (inr (inr (inr (inr e)))));
       same = λ f. clash status 10 0 e f (λ h. omega arith);
-      differs = λ f. clash status 10 1 e f (λ h. omega arith);
+      other = λ f. clash status 10 1 e f (λ h. omega arith);
       kept = λ f. clash status 10 1 e f (λ h. omega arith);
       cut = λ f. clash status 10 9 e f (λ h. omega arith);
       refused = λ f. not_refused status 10 f e (omega arith);
@@ -158,7 +164,7 @@ module _ (seed : Guid) (arch : Arch) (sector : ℕ) (dirs : List (List ℕ)) (fo
         files = record { failed = λ f. clash status 9 8 e f (λ h. omega arith); kept = λ f. clash status 9 0 e f (λ h. omega arith) };
         one_of = inr (inr (inr (inr (inr (inl e)))));
         same = λ f. clash status 9 0 e f (λ h. omega arith);
-        differs = λ f. clash status 9 1 e f (λ h. omega arith);
+        other = λ f. clash status 9 1 e f (λ h. omega arith);
         kept = λ f. clash status 9 1 e f (λ h. omega arith);
         cut = λ f. (found, says, printed);
         refused = λ f. not_refused status 9 f e (omega arith);
@@ -180,7 +186,7 @@ module _ (seed : Guid) (arch : Arch) (sector : ℕ) (dirs : List (List ℕ)) (fo
         files = record { failed = λ f. clash status 0 8 e f (λ h. omega arith); kept = λ f. (folders_kept, sources_kept) };
         one_of = inr (inl e);
         same = λ f. (says, printed);
-        differs = λ f. clash status 0 1 e f (λ h. omega arith);
+        other = λ f. clash status 0 1 e f (λ h. omega arith);
         kept = λ f. clash status 0 1 e f (λ h. omega arith);
         cut = λ f. clash status 0 9 e f (λ h. omega arith);
         refused = λ f. not_done status f e;
@@ -202,7 +208,7 @@ module _ (seed : Guid) (arch : Arch) (sector : ℕ) (dirs : List (List ℕ)) (fo
         files = record { failed = λ f. clash status 1 8 e f (λ h. omega arith); kept = λ f. clash status 1 0 e f (λ h. omega arith) };
         one_of = inr (inr (inl e));
         same = λ f. clash status 1 0 e f (λ h. omega arith);
-        differs = λ f. (found, says, printed);
+        other = λ f. (found, says, printed);
         kept = λ f. (folders_kept, sources_kept);
         cut = λ f. clash status 1 9 e f (λ h. omega arith);
         refused = λ f. not_one status f e;

@@ -2,4 +2,5 @@ mod Printed
 mod Sighted
 mod Planned
 mod Ended
+mod Found
 pub mod Statuses

@@ -39,6 +39,10 @@ same_err a b e = cc
 same_facts : (known facts : List Fact) → Settles source_refusal (Ok facts) (Ok known) → facts ≡ known
 same_facts known facts settles = let same = settled_ok source_refusal (Ok facts) known settles in cc
 
+-- what is refused where nothing is planned has one of these statuses
+abbrev pub IsNone : ℕ → Type 0
+IsNone status = IsRefused status ⊎ (status ≡ 7) ⊎ (status ≡ 8) ⊎ (status ≡ 10)
+
 module _ (request : Request) (list : List Definition) (disk later : Device) (sources drained : Store (List Stored)) where
   module _ (planned : Planned) where
     -- a plan by facts has what was seen
@@ -115,10 +119,6 @@ module _ (request : Request) (list : List Definition) (disk later : Device) (sou
   demand_status (demands.TakenIdentifier file) = inl refl
   demand_status (demands.NoIdentifier file) = inl refl
   demand_status demands.Memory = inr refl
-
-  -- what is refused where nothing is planned has one of these statuses
-  abbrev pub IsNone : ℕ → Type 0
-  IsNone status = IsRefused status ⊎ (status ≡ 7) ⊎ (status ≡ 8) ⊎ (status ≡ 10)
 
   as_status : (a b : Refusal) (n : ℕ) → ◌≡◌ {A = Result Planned Refusal} (Err a) (Err b) → b.status ≡ n → a.status ≡ n
   as_status a b n e is = ap (λ (r : Refusal). r.status) (same_err {T = Planned} a b e) ∙ is

@@ -35,7 +35,7 @@ with_fact P Q (Ok seen) p q = (p, q)
 with_fact P Q (Err fault) p q = tt
 
 read_ok : (P : Seen → Type 0) (r : Result Seen TableFault) (seen : Seen) → r ≡ Ok seen → IfOk r P → P seen
-read_ok P r seen e p = let here : IfOk (Ok seen) P = rw e at p in here
+read_ok P r seen e p = let here : IfOk {E = TableFault} (Ok seen) P = rw e at p in here
 
 -- a whole number of sectors is one of units
 whole_units : (sector len : ℕ) → IsSector sector → len % sector ≡ 0 → len ≡ 512 * (len / 512)

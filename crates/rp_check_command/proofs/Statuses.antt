@@ -81,11 +81,11 @@ module _ (seed : Guid) (arch : Arch) (sector : ℕ) (dirs : List (List ℕ)) (fo
     all_told found (Some tree) None q listed told compared = tt
     all_told found (Some tree) (Some h) None listed told compared = tt
     all_told found (Some tree) (Some h) (Some files) listed told compared =
-        ap (λ (d : Result Definitions Refusal). and_then (and_then d (λ definitions.
+        ap (λ (d : Result Definitions Refusal). and_then {T = Definitions × Planned} (and_then d (λ definitions.
         and_then (planned_of (check_request seed arch sector) definitions.list (shown h) files) (λ planned. Ok (definitions, planned))))
         (λ told. Ok (difference (shown h) arch told.1.seen told.1.plan)))
         (settled_ok folder_refusal (definitions_in arch tree dirs) definitions listed)
-        ∙ ap (λ (p : Result Planned Refusal). and_then (and_then p (λ planned. Ok (definitions, planned)))
+        ∙ ap (λ (p : Result Planned Refusal). and_then {T = Definitions × Planned} (and_then p (λ planned. Ok (definitions, planned)))
         (λ told. Ok (difference (shown h) arch told.1.seen told.1.plan))) told
         ∙ settled_ok disk_refusal (Ok (difference (shown h) arch planned.seen planned.plan)) found compared
 

@@ -37,7 +37,7 @@ pub record CheckByStatus (seed : Guid) (arch : Arch) (sector : ℕ) (dirs : List
       ⊎ (status ≡ exit.memory)
   pub same : status ≡ exit.done → WhereTold folders disk sources (λ tree image files.
       told_difference seed arch sector dirs tree image files ≡ Ok None) × PrintsAll out after same_line
-  pub differs : status ≡ differs → (found : Difference) × WhereTold folders disk sources (λ tree image files.
+  pub other : status ≡ differs → (found : Difference) × WhereTold folders disk sources (λ tree image files.
       told_difference seed arch sector dirs tree image files ≡ Ok (Some found)) × PrintsAll out after (difference_line found)
   pub kept : status ≡ differs → (read.faults ≡ folders.faults) × (drained.faults ≡ sources.faults)
   pub cut : status ≡ exit.sink → (found : Option Difference) × WhereTold folders disk sources (λ tree image files.
