@@ -1,7 +1,6 @@
 -- A run on an idle image makes no call but its sync.
-use Rattle.std.proofs.Common.{◌≡◌, ◌∙◌, ℕ, ◌*◌, ◌/◌, ◌≤◌, List, [], ◌∷◌, ◌++◌, Option, Some, None, Ok, length, refl, sym, ap, subst, arith}
-use Rattle.std.specs.Prelude.{IfSome, map, max}
-use Rattle.rp_base.specs.declared.guid.Guid.{Guid}
+use Rattle.std.proofs.Common.{◌≡◌, ◌∙◌, ℕ, ◌/◌, ◌≤◌, List, [], ◌∷◌, ◌++◌, Some, Ok, length, refl, sym, ap, subst, arith}
+use Rattle.std.specs.Prelude.{IfSome, max}
 use Rattle.rp_base.specs.declared.plan.Plan.{Plan}
 use Rattle.rp_base.specs.declared.seen.Seen.{Seen}
 use Rattle.rp_defs.specs.declared.definition.Definition.{Definition}
@@ -20,10 +19,9 @@ use Rattle.rp_plan.specs.Goal.{goal}
 use Rattle.rp_planned.specs.Planning.{target_of}
 use Rattle.rp_planned.specs.declared.planned.Planned.{Planned}
 use Rattle.rp_planned.specs.declared.request.Request.{Request}
-use Rattle.rp_steps.specs.Calls.{calls_of_steps, contents_calls, calls as calls_for}
-use Rattle.rp_steps.specs.Steps.{mbr_phases, written_copies}
+use Rattle.rp_steps.specs.Calls.{contents_calls, calls as calls_for}
 use Rattle.rp_steps.proofs.Made.{calls-flat}
-use Rattle.rp_stops.specs.Order.{contents_blocks, copies, growth}
+use Rattle.rp_stops.specs.Order.{contents_blocks, growth}
 use Rattle.rp_stops.proofs.Accepting.{accepted-sized}
 use Rattle.rp_apply.specs.Called.{AreAlike, AreCallsFor, calls_around, no_sources}
 use Rattle.rp_apply_command.specs.Ends.{CarriesSome, StopsSafely}

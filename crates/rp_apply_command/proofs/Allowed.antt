@@ -1,6 +1,6 @@
 -- What is planned for an image can be carried out.
-use Rattle.std.proofs.Common.{◌≡◌, ◌≤◌, ℕ, ◌+◌, ◌*◌, ◌/◌, Bool, true, false, List, [], ◌∷◌, ◌++◌, length, Option, Some, None, Result, Ok, Err, refl, sym, ap, ◌∙◌, subst, inl, inr, arith, All, map}
-use Rattle.std.specs.Prelude.{◌==◌, cond, IfSome, IsSome, find, slice_get}
+use Rattle.std.proofs.Common.{◌≡◌, ◌≤◌, ℕ, ◌*◌, ◌/◌, Bool, true, false, List, [], ◌∷◌, length, Option, Some, None, Result, Ok, Err, refl, sym, ap, ◌∙◌, subst, inl, inr, arith, All, map}
+use Rattle.std.specs.Prelude.{◌==◌, cond, IfSome, IsSome, slice_get}
 use Rattle.std.specs.List.{enumerate_from}
 use Rattle.std.specs.Option.{option_map}
 use Rattle.std.proofs.lemmas.Bool.{eqb-true}
@@ -8,7 +8,6 @@ use Rattle.std.proofs.lemmas.List.Elements.{All-append, All-cons, All-head, All-
 use Rattle.rp_base.specs.Geometry.{IsSector, least_sectors, sector_units}
 use Rattle.rp_base.specs.Plan.{IsWellFormed as IsPlan}
 use Rattle.rp_base.specs.declared.guid.Guid.{Guid}
-use Rattle.rp_base.specs.declared.plan.Note.{Note}
 use Rattle.rp_base.specs.declared.plan.Plan.{Plan}
 use Rattle.rp_base.specs.declared.seen.Seen.{Seen}
 use Rattle.rp_base.specs.declared.table.Row.{Row}
@@ -33,7 +32,6 @@ use Rattle.rp_reading.specs.Stages.{Settles}
 use Rattle.rp_sizes.specs.Needs.{AreFactsOn, fact_of, matched_of, wanted_of}
 use Rattle.rp_sizes.specs.declared.need.Fact.{Fact}
 use Rattle.rp_sizes.specs.declared.need.Need.{Need}
-use Rattle.rp_stops.specs.Order.{target_sectors}
 use Rattle.rp_stops.proofs.Accepting.{accepted-sized}
 use Rattle.rp_apply.specs.Sourced.{NamesSource}
 use Rattle.rp_apply_command.specs.Carrying.{CanPrepare, HasSeenLength}

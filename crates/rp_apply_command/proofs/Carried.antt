@@ -1,5 +1,5 @@
 -- What carrying out a plan makes of disk and sources, by what is known of its steps.
-use Rattle.std.proofs.Common.{◌≡◌, ◌≢◌, ◌≤◌, ℕ, ◌*◌, List, length, Option, Some, None, Result, Ok, Err, refl, sym, ap, ◌∙◌, subst, inl, inr, arith}
+use Rattle.std.proofs.Common.{◌≡◌, ◌≢◌, ℕ, ◌*◌, List, length, Option, Some, None, Result, Ok, Err, refl, sym, ap, ◌∙◌, subst, inl, inr, arith}
 use Rattle.std.specs.Prelude.{IfErr, IfSome}
 use Rattle.rp_base.specs.Plan.{IsWellFormed, Noted}
 use Rattle.rp_base.specs.declared.plan.Plan.{Plan}
@@ -29,7 +29,6 @@ use Rattle.rp_steps.specs.Calls.{calls as calls_for}
 use Rattle.rp_steps.specs.Contents.{NotesFit, Sources}
 use Rattle.rp_steps.specs.Steps.{steps}
 use Rattle.rp_steps.specs.declared.step.Step.{Step}
-use Rattle.rp_apply.specs.Called.{AreCallsFor}
 use Rattle.rp_apply.specs.Commits.{ChangesAt, HasOther, HasPlannedRoot, HavePlannedRoots}
 use Rattle.rp_apply.specs.Ready.{IsReadyFor}
 use Rattle.rp_apply.specs.Sourced.{paths_of}
@@ -37,7 +36,7 @@ use Rattle.rp_apply.specs.declared.ready.Ready.{Ready}
 use Rattle.rp_apply.proofs.Anyhow.{are_calls_like}
 use Rattle.rp_apply.proofs.Judging.{changes_at}
 use Rattle.rp_apply.proofs.Laid.{laid}
-use Rattle.rp_apply_command.specs.Applies.{CarriesOut, HasCommitCauses, IsCommitRefusal, Outcome}
+use Rattle.rp_apply_command.specs.Applies.{CarriesOut, IsCommitRefusal, Outcome}
 use Rattle.rp_apply_command.specs.Carrying.{HasSeenLength}
 use Rattle.rp_apply_command.proofs.Rooted.{root_of_row}
 

@@ -1,9 +1,8 @@
 -- How a run of `apply` ends on the disk.
-use Rattle.std.proofs.Common.{◌≡◌, ◌⊎◌, ◌∙◌, ℕ, ◌%◌, ◌^◌, ◌≤◌, List, [], ◌∷◌, ◌++◌, Bool, Result, Ok, Err, refl, sym, ap, subst, inl, inr}
+use Rattle.std.proofs.Common.{◌≡◌, ◌∙◌, ℕ, ◌%◌, ◌^◌, ◌≤◌, List, [], ◌∷◌, ◌++◌, Bool, Result, Ok, Err, refl, sym, ap, subst, inl, inr}
 use Rattle.std.specs.Prelude.{IfOk, IfSome, Option, Some, None, length}
 use Rattle.rp_idle.specs.Idle.{IsIdle}
 use Rattle.rp_base.specs.Geometry.{IsSector}
-use Rattle.rp_defs.specs.declared.definition.Definition.{Definition}
 use Rattle.rp_defs.specs.declared.definition.Definitions.{Definitions}
 use Rattle.rp_disk.specs.History.{shown}
 use Rattle.rp_disk.specs.Made.{dones, history_of}
@@ -15,14 +14,14 @@ use Rattle.rp_io.specs.Files.{Tree}
 use Rattle.rp_io.specs.declared.stored.Stored.{Stored}
 use Rattle.rp_outcome.specs.Device.{Device}
 use Rattle.rp_outcome.specs.Output.{Output, Finishes, Refuses}
-use Rattle.rp_outcome.specs.Refusals.{Refusal, disk_refusal, folder_refusal, memory_refusal}
+use Rattle.rp_outcome.specs.Refusals.{Refusal, folder_refusal, memory_refusal}
 use Rattle.rp_outcome.specs.Store.{Store}
 use Rattle.rp_planned.specs.Planning.{PlansImage}
 use Rattle.rp_planned.specs.declared.planned.Planned.{Planned}
 use Rattle.rp_planned.specs.declared.request.Request.{Request}
 use Rattle.rp_reading.specs.Reading.{IsReadingRefusal, ReadsDefinitions, definitions_in}
 use Rattle.rp_reading.specs.Stages.{Settles}
-use Rattle.rp_apply_command.specs.Applies.{Applies, AppliesBehind, AppliesOpened, AppliesPlanned, CarriesOut, Commits, EndsHere, IsCommitRefusal, Opens, Outcome, PlanFits, Tells, applied_report}
+use Rattle.rp_apply_command.specs.Applies.{Applies, AppliesBehind, AppliesOpened, AppliesPlanned, CarriesOut, EndsHere, IsCommitRefusal, Opens, Outcome, PlanFits, Tells, applied_report}
 use Rattle.rp_apply_command.specs.Ends.{AreRead, Ends, IsBefore, IsBehind, IsBetween, LeavesAll}
 use Rattle.rp_apply_command.specs.Ends.Ends.{before, behind, broken, between}
 use Rattle.rp_apply_command.proofs.Again.{made_no_more}

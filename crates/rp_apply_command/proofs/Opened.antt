@@ -1,5 +1,5 @@
 -- The sync with which a run opens.
-use Rattle.std.proofs.Common.{◌≡◌, List, [], ◌∷◌, ◌++◌, Result, Ok, Err, refl, sym, ap, subst, inl, inr, append-nil}
+use Rattle.std.proofs.Common.{◌≡◌, [], Result, Ok, Err, refl, sym, subst, inl, inr, append-nil}
 use Rattle.std.specs.Prelude.{IfSome}
 use Rattle.rp_base.specs.Faults.{HasCause}
 use Rattle.rp_base.specs.declared.faults.Failed.{Failed}

@@ -9,7 +9,6 @@ use Rattle.rp_base.specs.Plan.{Noted, noted_of}
 use Rattle.rp_base.specs.Table.{TableFits}
 use Rattle.rp_base.specs.declared.guid.Guid.{Guid}
 use Rattle.rp_base.specs.declared.plan.Role.TheVariants.{Hash}
-use Rattle.rp_defs.specs.declared.definition.Definition.{Definition}
 use Rattle.rp_defs.specs.declared.definition.Definitions.{Definitions}
 use Rattle.rp_disk.specs.Runs.{Runs}
 use Rattle.rp_disk.specs.declared.call.Call.{Call}

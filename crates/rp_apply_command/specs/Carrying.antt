@@ -1,5 +1,5 @@
 -- What it takes that a plan can be carried out: own rules.
-use Rattle.std.specs.Prelude.{ℕ, ◌≡◌, ◌≤◌, ◌*◌, List, All, IfSome, length}
+use Rattle.std.specs.Prelude.{◌≡◌, ◌≤◌, ◌*◌, List, All, IfSome, length}
 use Rattle.rp_apply.specs.Sourced.{NamesSource}
 use Rattle.rp_base.specs.Geometry.{least_sectors}
 use Rattle.rp_base.specs.Plan.{IsWellFormed}

@@ -2,8 +2,6 @@
 use Rattle.std.specs.Prelude.{ℕ, ◌≡◌, ◌⊎◌, ◌++◌, List, [], ◌∷◌, Bool, IfSome, Ok}
 use Rattle.rp_apply.specs.Sourced.{paths_of}
 use Rattle.rp_step.specs.Sourced.{sources_in}
-use Rattle.rp_base.specs.declared.plan.Plan.{Plan}
-use Rattle.rp_base.specs.declared.seen.Seen.{Seen}
 use Rattle.rp_defs.specs.WellFormed.{IsWellFormed}
 use Rattle.rp_defs.specs.declared.definition.Definition.{Definition}
 use Rattle.rp_defs.specs.declared.definition.Definitions.{Definitions}

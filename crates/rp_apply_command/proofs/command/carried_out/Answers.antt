@@ -1,4 +1,4 @@
-use Rattle.std.proofs.Common.{◌≡◌, List, Ok, Err, refl, sym, ap, subst, ℕ}
+use Rattle.std.proofs.Common.{List, Ok, Err, sym, subst, ℕ}
 use Rattle.rp_outcome.specs.Device.{device}
 use Rattle.rp_outcome.specs.Output.{Finishes, output}
 use Rattle.rp_outcome.specs.Store.{store}
