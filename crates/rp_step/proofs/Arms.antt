@@ -1,5 +1,5 @@
 -- From what a step is made of to the step.
-use Rattle.std.proofs.Common.{◌≡◌, ◌≢◌, ℕ, ◌≤◌, List, [], ◌∷◌, ◌++◌, Option, Some, None, Result, Ok, Err, refl, sym, ◌∙◌, append-nil}
+use Rattle.std.proofs.Common.{◌≡◌, ℕ, List, [], ◌∷◌, Option, Some, None, Result, Ok, Err, refl, sym, append-nil}
 use Rattle.std.specs.Prelude.{IfSome}
 use Rattle.rp_base.specs.Faults.{HasCause}
 use Rattle.rp_base.specs.declared.faults.Failed.{Failed}

@@ -1,5 +1,5 @@
 -- The runs of copies begin with them.
-use Rattle.std.proofs.Common.{◌≡◌, ℕ, ◌+◌, ◌*◌, ◌≤◌, inl, inr, length, take, refl, sym, ap, ◌∙◌, arith}
+use Rattle.std.proofs.Common.{◌≡◌, ℕ, ◌≤◌, inl, inr, length, take, refl, sym, ap, ◌∙◌, arith}
 use Rattle.rp_base.specs.Geometry.{AreEntries, IsSector, copy_bytes}
 use Rattle.rp_base.specs.declared.geometry.Which.{Which}
 use Rattle.rp_base.specs.declared.geometry.Which.TheVariants.{Primary, Backup}

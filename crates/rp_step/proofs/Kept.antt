@@ -1,5 +1,5 @@
 -- A write to the run of a piece, or of a tree's levels, leaves both copies.
-use Rattle.std.proofs.Common.{◌≡◌, ◌≢◌, ℕ, ◌+◌, ◌*◌, ◌≤◌, List, length, take, refl, ap, ◌∙◌, arith}
+use Rattle.std.proofs.Common.{◌≡◌, ◌≢◌, ℕ, ◌*◌, ◌≤◌, List, length, take, refl, ap, ◌∙◌, arith}
 use Rattle.std.specs.Prelude.{slice_index}
 use Rattle.rp_base.specs.declared.geometry.Which.TheVariants.{Primary, Backup}
 use Rattle.rp_base.specs.declared.plan.Plan.{Plan}

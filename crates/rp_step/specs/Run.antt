@@ -1,5 +1,5 @@
 -- What making many steps makes of a disk: own rules.
-use Rattle.std.specs.Prelude.{ℕ, ◌≡◌, ◌⊎◌, ◌*◌, ◌++◌, List, [], ◌∷◌, Result, IfErr, OnOk, ⊤}
+use Rattle.std.specs.Prelude.{ℕ, ◌⊎◌, ◌*◌, ◌++◌, List, [], ◌∷◌, Result, IfErr, OnOk, ⊤}
 use Rattle.rp_base.specs.Image.{bytes_at}
 use Rattle.rp_base.specs.declared.plan.Plan.{Plan}
 use Rattle.rp_disk.specs.Made.{Made, dones}

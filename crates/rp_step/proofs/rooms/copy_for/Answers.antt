@@ -1,4 +1,4 @@
-use Rattle.std.proofs.Common.{◌≡◌, ℕ, List, ◌∙◌, ap, take}
+use Rattle.std.proofs.Common.{ℕ, List, ◌∙◌, ap, take}
 use Rattle.rp_base.specs.Geometry.{copy_bytes}
 use Rattle.rp_step.proofs.HeldCopies.{backup_held, primary_held}
 use Rattle.rp_step.proofs.rooms.copy_for.Goals as goal

@@ -1,4 +1,3 @@
-use Rattle.std.proofs.Common.{◌≡◌}
 use Rattle.rp_disk.specs.declared.call.Call.TheVariants.{SetLen, Sync}
 use Rattle.rp_steps.specs.Calls.{calls_of}
 use Rattle.rp_step.specs.Found.{calls_with}

@@ -1,4 +1,3 @@
-use Rattle.std.proofs.Common.{◌≡◌}
 use Rattle.rp_step.specs.Found.{HasFile, outside_of}
 use Rattle.rp_step.proofs.Arms.{copy_made, disk_cause, fill_disk_cause, fill_source_cause, fixed_made, fixed_of, source_still, still, tree_disk_cause, tree_made, tree_source_still}
 use Rattle.rp_step.proofs.Kept.{stocked_still}

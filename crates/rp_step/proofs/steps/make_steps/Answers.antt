@@ -1,4 +1,4 @@
-use Rattle.std.proofs.Common.{◌≡◌, refl, ◌∙◌, IfSome}
+use Rattle.std.proofs.Common.{refl, ◌∙◌, IfSome}
 use Rattle.std.proofs.lemmas.Result.{err_from_is_err_and}
 use Rattle.rp_disk.specs.History.{IsLawful}
 use Rattle.rp_disk.specs.Made.{history_told}
