@@ -85,12 +85,12 @@ fn tree_of_zeros(rt: HostRuntime) -> Result<(), Fail> {
     Ok(())
 }
 
-// The second hash block can't be written.
+// The second hash block can't be written: 32 reads of data come before the first, and one more before it.
 #[test]
 fn failed_write(rt: HostRuntime) -> Result<(), Fail> {
     let bytes = List::from_vec(vec![in rt.alloc(); 0u8; 133 * 4096]?);
     let mut fail = List::new(rt.alloc());
-    fail.push(131)?;
+    fail.push(35)?;
     let mut disk = MemDisk::new(rt.alloc(), bytes, fail);
     assert!(rt; written(&mut disk, [9; 32]).is_err());
     assert_eq!(rt; disk.writes(), 2);
