@@ -61,9 +61,9 @@ module _ (seen : Seen) (plan : Plan) (formed : IsWellFormed seen plan) where
       let place = noted_at seen plan formed k noted row.below in
       let here : k < length plan.goal.rows = omega (arith, row.below, length-noted_of seen plan formed) in
       let is : get_or plan.goal.rows k noted.0 ≡ noted.0 = ap (λ (x : Noted). x.0) (sym place ∙ row.is) in
-      let bounds = formed.rows.in_bounds k noted.0 here in
+      let bounds = formed.in_place.rows.in_bounds k noted.0 here in
       let end : (get_or plan.goal.rows k noted.0).start + (get_or plan.goal.rows k noted.0).size ≤ plan.target =
-      omega (arith, bounds.1, formed.bounded.last, usable_inside plan.goal.sector plan.goal.entries plan.target formed.writable.sector) in
+      omega (arith, bounds.1, formed.in_place.bounded.last, usable_inside plan.goal.sector plan.goal.entries plan.target formed.writable.sector) in
       subst (λ (r : Row). from_byte r + byte_count r ≤ 512 * plan.target) is (omega (arith, end))
 
   -- the numbers of its role are within their fields
@@ -103,10 +103,10 @@ module _ (seen : Seen) (plan : Plan) (formed : IsWellFormed seen plan) where
     by (inl same) = absurd (differ same)
     by (inr (inl before)) =
         inl (subst (λ (r : Row). AreApart r b.0) (row_is a i bi at_i)
-        (subst (λ (r : Row). AreApart (get_or plan.goal.rows i a.0) r) (row_is b j bj at_j) (formed.rows.apart i j a.0 before (inside j bj))))
+        (subst (λ (r : Row). AreApart (get_or plan.goal.rows i a.0) r) (row_is b j bj at_j) (formed.in_place.rows.apart i j a.0 before (inside j bj))))
     by (inr (inr behind)) =
         inr (subst (λ (r : Row). AreApart r a.0) (row_is b j bj at_j)
-        (subst (λ (r : Row). AreApart (get_or plan.goal.rows j a.0) r) (row_is a i bi at_i) (formed.rows.apart j i a.0 behind (inside i bi))))
+        (subst (λ (r : Row). AreApart (get_or plan.goal.rows j a.0) r) (row_is a i bi at_i) (formed.in_place.rows.apart j i a.0 behind (inside i bi))))
 
   pub partner_at : (noted : Noted) → IsRow noted → (partner blocks : ℕ) (salt : List ℕ) (uuid : Guid) (root : List ℕ)
       → noted.1.role ≡ Hash partner blocks salt uuid root → Partner seen plan formed noted partner blocks

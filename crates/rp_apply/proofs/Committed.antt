@@ -3,7 +3,7 @@ use Rattle.std.proofs.Common.{◌≡◌, ℕ, ◌*◌, List, length, Option, Som
 use Rattle.std.specs.Prelude.{IfSome}
 use Rattle.std.specs.Prelude.{All, Any}
 use Rattle.rp_base.specs.Plan.{noted_of}
-use Rattle.rp_disk.specs.History.{IsLawful, shown}
+use Rattle.rp_disk.specs.History.{IsLawful, held}
 use Rattle.rp_disk.specs.Made.{Made, history_of, history_told}
 use Rattle.rp_io.specs.declared.stored.Stored.{Stored}
 use Rattle.rp_steps.specs.Steps.{steps}
@@ -70,7 +70,7 @@ module _ (ready : Ready) (is : IsReady ready) where
   ended_of (Some files) (Some bytes) old new (Err fault) makes = tt
   ended_of (Some files) (Some bytes) old new (Ok value) makes = λ sector empty plan_is settled.
       let m = of_plan (Some files) (Some bytes) old new (Ok value) makes in
-      let long = (plan-given sector (shown (history_of bytes old)) empty ready.seen ready.plan plan_is).seen_of.len in
+      let long = (plan-given sector (held (history_of bytes old)) empty ready.seen ready.plan plan_is).seen_of.len in
       let runs = planned_runs ready.seen ready.plan is.well_formed is.notes_fit ready.paths files bytes m.0 old new (Ok value) m.1 long in
       ends_final ready.seen ready.plan is.well_formed is.notes_fit (sources_of ready files) bytes old new sector empty runs.ok plan_is settled
 
@@ -83,8 +83,8 @@ module _ (ready : Ready) (is : IsReady ready) where
 
   -- no stray call on a disk as long as it was seen
   pub strays_of : (first : Option (List ℕ)) (old : List Made) (before now : ℕ)
-      → IfSome (history_told first old) (λ h. AllLieIn ready.plan (length (shown h)) ready.steps → now ≡ before)
-      → IfSome (history_told first old) (λ h. length (shown h) ≡ 512 * ready.seen.sectors → now ≡ before)
+      → IfSome (history_told first old) (λ h. AllLieIn ready.plan (length (held h)) ready.steps → now ≡ before)
+      → IfSome (history_told first old) (λ h. length (held h) ≡ 512 * ready.seen.sectors → now ≡ before)
   strays_of None old before now stays = tt
   strays_of (Some bytes) old before now stays = λ long.
       let P : ℕ → List Step → Type 0 = λ n l. AllLieIn ready.plan n l in
@@ -93,14 +93,14 @@ module _ (ready : Ready) (is : IsReady ready) where
   -- both hashes, where the disk tells
   copied_of : {T : Type 0} (told : Option (List Stored)) (bytes : List ℕ) (old new : List Made) (fault : ApplyFault) → IsLawful (history_of bytes new)
       → (founds : List Found) × MakesSteps {T = T} ready.plan (outside_of told ready.paths (Some bytes)) (steps ready.plan ready.seen) founds old new (Err fault)
-      → length (shown (history_of bytes old)) ≡ 512 * ready.seen.sectors → IfChanged fault (λ planned copied.
-      Any (λ noted. ShowsOther ready.plan (shown (history_of bytes new)) planned copied noted.1.role) (noted_of ready.plan))
+      → length (held (history_of bytes old)) ≡ 512 * ready.seen.sectors → IfChanged fault (λ planned copied.
+      Any (λ noted. ShowsOther ready.plan (held (history_of bytes new)) planned copied noted.1.role) (noted_of ready.plan))
   copied_of told bytes old new DiskFault lawful m long = tt
   copied_of told bytes old new SourceFault lawful m long = tt
   copied_of told bytes old new (SourceChanged planned copied) lawful m long =
       let all = steps ready.plan ready.seen in
       let lie = lies ready.seen ready.plan is.well_formed in
-      shown_among ready.seen ready.plan is.well_formed (shown (history_of bytes new)) planned copied
+      shown_among ready.seen ready.plan is.well_formed (held (history_of bytes new)) planned copied
       (stopped_shown ready.plan (outside_of told ready.paths (Some bytes)) bytes refl m.0 all planned copied old new m.1.found_are
       (can_make ready.paths ready.seen ready.plan is.well_formed (subst (λ (l : List Step). All (NamesPath ready.paths) l) is.steps is.paths))
       (subst (λ (n : ℕ). AllLieIn ready.plan n all) (sym long) lie) lawful m.1.changed)

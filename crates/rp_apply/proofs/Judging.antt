@@ -7,7 +7,7 @@ use Rattle.rp_base.specs.declared.plan.Plan.{Plan}
 use Rattle.rp_base.specs.declared.plan.Role.{Role}
 use Rattle.rp_base.specs.declared.plan.Role.TheVariants.{Plain, Data, Hash}
 use Rattle.rp_base.specs.declared.seen.Seen.{Seen}
-use Rattle.rp_disk.specs.History.{shown}
+use Rattle.rp_disk.specs.History.{held}
 use Rattle.rp_disk.specs.Made.{Made, history_of}
 use Rattle.rp_io.specs.declared.stored.Stored.{Stored}
 use Rattle.rp_steps.specs.Contents.{NotesFit, Sources}
@@ -26,10 +26,10 @@ module _ (seen : Seen) (plan : Plan) (formed : IsWellFormed seen plan) (fit : No
   -- a source has changed exactly where a tree's root hash isn't the planned one
   pub changes_at : {T : Type 0} (paths : List (List ℕ)) (files : List Stored) (first : List ℕ) (founds : List Found) (old new : List Made) (result : Result T ApplyFault)
       → MakesSteps plan (outside_of (Some files) paths (Some first)) (steps plan seen) founds old new result
-      → length (shown (history_of first old)) ≡ 512 * seen.sectors → ChangesAt plan (sources_in files paths) result
+      → length (held (history_of first old)) ≡ 512 * seen.sectors → ChangesAt plan (sources_in files paths) result
   changes_at paths files first founds old new (Ok value) makes long =
       let outside = outside_of (Some files) paths (Some first) in
-      let on = laid plan (sources_in files paths) seen formed fit (shown (history_of first old)) long in
+      let on = laid plan (sources_in files paths) seen formed fit (held (history_of first old)) long in
       record {
         planned = rows_planned seen plan formed (sources_in files paths)
             (roots_planned plan outside files first refl refl old founds (steps plan seen) makes.found_are on makes.roots);
@@ -39,7 +39,7 @@ module _ (seen : Seen) (plan : Plan) (formed : IsWellFormed seen plan) (fit : No
   changes_at paths files first founds old new (Err SourceFault) makes long = record { planned = tt; changed = tt }
   changes_at paths files first founds old new (Err (SourceChanged planned copied)) makes long =
       let outside = outside_of (Some files) paths (Some first) in
-      let on = laid plan (sources_in files paths) seen formed fit (shown (history_of first old)) long in
+      let on = laid plan (sources_in files paths) seen formed fit (held (history_of first old)) long in
       record {
         planned = tt;
         changed = other_among seen plan formed (sources_in files paths) planned copied

@@ -70,9 +70,9 @@ module _ (seen : Seen) (plan : Plan) (formed : IsWellFormed seen plan) where
   starts_apart i j d before below =
       let near : i < length (noted_of plan) = omega arith in
       let here = rows_here j below in
-      let apart : AreApart (get_or plan.goal.rows i d.0) (get_or plan.goal.rows j d.0) = formed.rows.apart i j d.0 before here in
+      let apart : AreApart (get_or plan.goal.rows i d.0) (get_or plan.goal.rows j d.0) = formed.in_place.rows.apart i j d.0 before here in
       let differ = apart_here (get_or plan.goal.rows i d.0) (get_or plan.goal.rows j d.0) apart
-      (formed.rows.sized i d.0 (rows_here i near)) (formed.rows.sized j d.0 here) in
+      (formed.in_place.rows.sized i d.0 (rows_here i near)) (formed.in_place.rows.sized j d.0 here) in
       let P : Noted → Noted → Type 0 = λ x y. from_byte x.0 ≢ from_byte y.0 in
       subst (λ (x : Noted). P x (get_or (noted_of plan) j d)) (sym (noted_at i d near))
       (subst (λ (y : Noted). P (get_or plan.goal.rows i d.0, get_or plan.notes i d.1) y) (sym (noted_at j d below)) differ)

@@ -9,7 +9,7 @@ use Rattle.rp_base.specs.declared.plan.Role.{Role}
 use Rattle.rp_base.specs.declared.plan.Role.TheVariants.{Plain, Data, Hash}
 use Rattle.rp_base.specs.declared.seen.Seen.{Seen}
 use Rattle.rp_disk.specs.Calls.{all_done}
-use Rattle.rp_disk.specs.History.{shown}
+use Rattle.rp_disk.specs.History.{held}
 use Rattle.rp_disk.specs.Made.{Made, dones, history_of}
 use Rattle.rp_io.specs.declared.stored.Stored.{Stored}
 use Rattle.rp_steps.specs.Contents.{Sources}
@@ -47,14 +47,14 @@ module _ (plan : Plan) (outside : Outside) (files : List Stored) (first : List �
 
   -- what is known of the rest, behind a step
   next_laid : (made : List Made) (found : Found) (step : Step) (steps : List Step) → IsFound outside made found step
-      → AreLaid plan sources (shown (history_of first made)) (step ∷ steps)
-      → AreLaid plan sources (shown (history_of first (made ++ dones (calls_with plan found step)))) steps
+      → AreLaid plan sources (held (history_of first made)) (step ∷ steps)
+      → AreLaid plan sources (held (history_of first (made ++ dones (calls_with plan found step)))) steps
   next_laid made found step steps is laid =
       let here = tied plan outside files first told shows made found step is laid.0 in
       subst (λ (image : List ℕ). AreLaid plan sources image steps)
-      (sym (shown_after plan outside files first told shows made (calls_with plan found step) ∙ ap (all_done (shown (history_of first made))) here)) laid.1
+      (sym (shown_after plan outside files first told shows made (calls_with plan found step) ∙ ap (all_done (held (history_of first made))) here)) laid.1
 
-  root_one : (made : List Made) (found : Found) (step : Step) → IsFound outside made found step → IsLaid plan sources (shown (history_of first made)) step
+  root_one : (made : List Made) (found : Found) (step : Step) → IsFound outside made found step → IsLaid plan sources (held (history_of first made)) step
       → HasRoot found step → HasPlanned plan sources step
   root_one made found (Tree data_at hash_at blocks salt uuid root) is laid has =
       ap (root_hash salt) (sym (blocks_are plan outside files first told shows made data_at hash_at blocks salt found.blocks is.1 laid.0 laid.1)) ∙ has
@@ -71,7 +71,7 @@ module _ (plan : Plan) (outside : Outside) (files : List Stored) (first : List �
   root_one made found Sync is laid has = tt
 
   pub roots_planned : (made : List Made) (founds : List Found) (steps : List Step) → AreFound plan outside made founds steps
-      → AreLaid plan sources (shown (history_of first made)) steps → HaveRoots founds steps → All (HasPlanned plan sources) steps
+      → AreLaid plan sources (held (history_of first made)) steps → HaveRoots founds steps → All (HasPlanned plan sources) steps
   roots_planned made [] [] are laid roots = All-nil (HasPlanned plan sources)
   roots_planned made [] (step ∷ steps) are laid roots = absurd are
   roots_planned made (found ∷ founds) [] are laid roots = absurd are
@@ -80,7 +80,7 @@ module _ (plan : Plan) (outside : Outside) (files : List Stored) (first : List �
       (roots_planned (made ++ dones (calls_with plan found step)) founds steps are.1 (next_laid made found step steps are.0 laid) roots.1)
 
   other_one : (made new : List Made) (found : Found) (step : Step) (planned copied : List ℕ) → IsFound outside made found step
-      → IsLaid plan sources (shown (history_of first made)) step → HasOtherRoot found planned copied made new step
+      → IsLaid plan sources (held (history_of first made)) step → HasOtherRoot found planned copied made new step
       → HasOtherThan plan sources planned copied step
   other_one made new found (Tree data_at hash_at blocks salt uuid root) planned copied is laid other =
       (other.0, other.1 ∙ ap (root_hash salt) (blocks_are plan outside files first told shows made data_at hash_at blocks salt found.blocks is.1 laid.0 laid.1), other.2)
@@ -100,7 +100,7 @@ module _ (plan : Plan) (outside : Outside) (files : List Stored) (first : List �
   any_later P step steps any = (suc any.0, any.1, let below = any.2 in omega arith, any.3, any.4)
 
   pub stops_at : (made new : List Made) (founds : List Found) (steps : List Step) (planned copied : List ℕ) → AreFound plan outside made founds steps
-      → AreLaid plan sources (shown (history_of first made)) steps → StopsAtRoot plan founds planned copied made new steps
+      → AreLaid plan sources (held (history_of first made)) steps → StopsAtRoot plan founds planned copied made new steps
       → Any (HasOtherThan plan sources planned copied) steps
   stops_at made new [] steps planned copied are laid stops = absurd stops
   stops_at made new (found ∷ founds) [] planned copied are laid stops = absurd stops

@@ -5,7 +5,7 @@ use Rattle.rp_base.specs.Plan.{noted_of}
 use Rattle.rp_base.specs.declared.plan.Plan.{Plan}
 use Rattle.rp_base.specs.declared.plan.Role.{Role}
 use Rattle.rp_base.specs.declared.plan.Role.TheVariants.{Hash}
-use Rattle.rp_disk.specs.History.{IsSettled, LeftSince, moment, shown}
+use Rattle.rp_disk.specs.History.{IsSettled, LeftSince, moment, held}
 use Rattle.rp_disk.specs.Made.{Made, history_of, history_told}
 use Rattle.rp_disk.specs.Runs.{Runs}
 use Rattle.rp_disk.specs.declared.call.Call.{Call}
@@ -34,7 +34,7 @@ sources_of ready files = sources_in files ready.paths
 -- the calls are those of the plan: at Ok all, else some first ones
 abbrev pub MakesPlanned : {T : Type 0} → Ready → List Stored → Option (List ℕ) → List Made → List Made → Result T ApplyFault → Type 0
 MakesPlanned ready files first old new result = IfSome (history_told first old) (λ h.
-    length (shown h) ≡ 512 * ready.seen.sectors → Runs old (calls ready.plan ready.seen (sources_of ready files)) new result)
+    length (held h) ≡ 512 * ready.seen.sectors → Runs old (calls ready.plan ready.seen (sources_of ready files)) new result)
 
 -- the root hash of a tree over the row at a place, which is to hold its source
 abbrev pub root_over : Plan → Sources → ℕ → ℕ → List ℕ → List ℕ
@@ -62,7 +62,7 @@ pub record ChangesAt {T : Type 0} (plan : Plan) (sources : Sources) (result : Re
 
 abbrev pub ChangesAtRoots : {T : Type 0} → Ready → List Stored → Option (List ℕ) → List Made → Result T ApplyFault → Type 0
 ChangesAtRoots ready files first old result = IfSome (history_told first old) (λ h.
-    length (shown h) ≡ 512 * ready.seen.sectors → ChangesAt ready.plan (sources_of ready files) result)
+    length (held h) ≡ 512 * ready.seen.sectors → ChangesAt ready.plan (sources_of ready files) result)
 
 -- a row holds a tree that is planned with this root hash, and the bytes that an image shows of its partner's blocks have this other
 abbrev pub ShowsOther : Plan → List ℕ → List ℕ → List ℕ → Role → Type 0
@@ -73,20 +73,20 @@ ShowsOther plan image planned copied other = ⊥
 -- where a source has changed, both hashes are told: the planned one, and that of the bytes that are shown
 abbrev pub TellsShown : {T : Type 0} → Ready → Option (List ℕ) → List Made → List Made → Result T ApplyFault → Type 0
 TellsShown ready first old new result = IfSome first (λ bytes.
-    length (shown (history_of bytes old)) ≡ 512 * ready.seen.sectors → IfErr result (λ fault. IfChanged fault (λ planned copied.
-    Any (λ noted. ShowsOther ready.plan (shown (history_of bytes new)) planned copied noted.1.role) (noted_of ready.plan))))
+    length (held (history_of bytes old)) ≡ 512 * ready.seen.sectors → IfErr result (λ fault. IfChanged fault (λ planned copied.
+    Any (λ noted. ShowsOther ready.plan (held (history_of bytes new)) planned copied noted.1.role) (noted_of ready.plan))))
 
 -- where each tree is planned with its root hash and no count rises, the answer is Ok
 abbrev pub IsComplete : {T : Type 0} → Ready → List Stored → Option (List ℕ) → List Made → ℕ → ℕ → ℕ → ℕ → Result T ApplyFault → Type 0
 IsComplete ready files first old disk_before disk_now sources_before sources_now result = IfSome (history_told first old) (λ h.
-    length (shown h) ≡ 512 * ready.seen.sectors → HavePlannedRoots ready.plan (sources_of ready files)
+    length (held h) ≡ 512 * ready.seen.sectors → HavePlannedRoots ready.plan (sources_of ready files)
     → ¬ Rose disk_before disk_now → ¬ Rose sources_before sources_now → IsOk result)
 
 -- where the plan fits the image, and nothing was pending: the bytes shown are the final image, and nothing is pending
 abbrev pub EndsFinal : Ready → List Stored → Option (List ℕ) → List Made → List Made → Type 0
 EndsFinal ready files first old new = IfSome first (λ bytes.
-    (sector : ℕ) (empty : Empty) → IsPlanFor sector (shown (history_of bytes old)) empty ready.seen ready.plan → IsSettled (history_of bytes old)
-    → IsFinal (shown (history_of bytes old)) ready.seen ready.plan (contents ready.plan (sources_of ready files) (grown (shown (history_of bytes old)) ready.plan)) (shown (history_of bytes new))
+    (sector : ℕ) (empty : Empty) → IsPlanFor sector (held (history_of bytes old)) empty ready.seen ready.plan → IsSettled (history_of bytes old)
+    → IsFinal (held (history_of bytes old)) ready.seen ready.plan (contents ready.plan (sources_of ready files) (grown (held (history_of bytes old)) ready.plan)) (held (history_of bytes new))
     × IsSettled (history_of bytes new))
 
 -- where the plan fits the image, and nothing was pending: an image that a stop at any moment since might have left, and that
@@ -94,8 +94,8 @@ EndsFinal ready files first old new = IfSome first (λ bytes.
 -- the sources tell, the new rows hold their contents where the goal is shown (the image is safe)
 abbrev pub AnyMomentIsSafe : Ready → Option (List Stored) → Option (List ℕ) → List Made → List Made → Type 0
 AnyMomentIsSafe ready told first old new = IfSome first (λ bytes.
-    (sector : ℕ) (empty : Empty) → IsPlanFor sector (shown (history_of bytes old)) empty ready.seen ready.plan → IsSettled (history_of bytes old)
+    (sector : ℕ) (empty : Empty) → IsPlanFor sector (held (history_of bytes old)) empty ready.seen ready.plan → IsSettled (history_of bytes old)
     → (body : List Call) × Each (IsInNewRow ready.plan) body
     × IfSome told (λ files. body ≡ contents_calls ready.plan (sources_of ready files)) × ((made : List Call) (image : List ℕ)
-    → LeftSince (history_of bytes new) (moment (history_of bytes old)) made image → IsTornHonest sector (shown (history_of bytes old)) made image
-    → StopsAlone sector (shown (history_of bytes old)) ready.seen ready.plan body image))
+    → LeftSince (history_of bytes new) (moment (history_of bytes old)) made image → IsTornHonest sector (held (history_of bytes old)) made image
+    → StopsAlone sector (held (history_of bytes old)) ready.seen ready.plan body image))

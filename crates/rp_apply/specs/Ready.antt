@@ -1,6 +1,5 @@
 -- A plan that can be carried out without memory: own rules.
 use Rattle.std.specs.Prelude.{ℕ, ◌≡◌, ◌≤◌, ◌<◌, List, All, length, ⊤}
-use Rattle.rp_base.specs.Geometry.{least_sectors}
 use Rattle.rp_base.specs.Plan.{IsWellFormed}
 use Rattle.rp_base.specs.Table.{TableFits}
 use Rattle.rp_base.specs.declared.plan.Plan.{Plan}
@@ -24,7 +23,6 @@ NamesPath paths other = ⊤
 -- and they hold both copies of the goal
 pub record IsReady (ready : Ready) : Type 0 where
   pub well_formed : IsWellFormed ready.seen ready.plan
-  pub room : least_sectors ready.plan.goal.sector ready.plan.goal.entries ≤ target_sectors ready.plan
   pub table_fits : TableFits ready.plan.goal
   pub notes_fit : NotesFit ready.plan
   pub steps : ready.steps ≡ steps ready.plan ready.seen

@@ -1,5 +1,5 @@
 ghost use Rattle.std.specs.Prelude.{◌≡◌, ◌*◌, All, IfOk, IfSome, List, OnOk, length};
-ghost use Rattle.rp_disk.specs.History.{shown};
+ghost use Rattle.rp_disk.specs.History.{held};
 ghost use Rattle.rp_disk.specs.Made.{history_told};
 ghost use Rattle.rp_step.specs.Causes.{HasDiskCause, HasSourceCause};
 ghost use Rattle.rp_step.specs.Found.{Found, HasFile, outside_of};
@@ -37,7 +37,7 @@ pub fn commit<D: Disk, S: Sources>(
     ensures disk_cause { HasDiskCause (D.faults disk.old) (D.faults disk.new) result }
     ensures source_cause { HasSourceCause (S.faults sources.old) (S.faults sources.new) result }
     // No call goes past the end of a disk as long as it was seen, nor of a file that has the bytes.
-    ensures disk_strays { IfSome (history_told (D.first disk.old) (D.calls disk.old)) (λ h. length (shown h) ≡ 512 * ready.seen.sectors → D.strays disk.new ≡ D.strays disk.old) }
+    ensures disk_strays { IfSome (history_told (D.first disk.old) (D.calls disk.old)) (λ h. length (held h) ≡ 512 * ready.seen.sectors → D.strays disk.new ≡ D.strays disk.old) }
     ensures source_strays { IfSome (S.told sources.old) (λ files. All (HasFile files ready.paths) ready.steps → S.strays sources.new ≡ S.strays sources.old) }
 
     // Where the disk tells, whatever the sources do.
@@ -70,7 +70,7 @@ fn carry_out<D: Disk, S: Sources>(
     ensures writes { IfOk result (λ done. done.writes ≡ writes_in ready.steps) }
     ensures disk_cause { HasDiskCause (D.faults disk.old) (D.faults disk.new) result }
     ensures source_cause { HasSourceCause (S.faults sources.old) (S.faults sources.new) result }
-    ensures disk_strays { IfSome (history_told (D.first disk.old) (D.calls disk.old)) (λ h. AllLieIn ready.plan (length (shown h)) ready.steps → D.strays disk.new ≡ D.strays disk.old) }
+    ensures disk_strays { IfSome (history_told (D.first disk.old) (D.calls disk.old)) (λ h. AllLieIn ready.plan (length (held h)) ready.steps → D.strays disk.new ≡ D.strays disk.old) }
     ensures source_strays { IfSome (S.told sources.old) (λ files. All (HasFile files ready.paths) ready.steps → S.strays sources.new ≡ S.strays sources.old) }
 {
     let mut ready = ready;
@@ -93,7 +93,7 @@ fn make_all<D: Disk, S: Sources>(
         (D.calls disk.old) (D.calls disk.new) result }
     ensures disk_cause { HasDiskCause (D.faults disk.old) (D.faults disk.new) result }
     ensures source_cause { HasSourceCause (S.faults sources.old) (S.faults sources.new) result }
-    ensures disk_strays { IfSome (history_told (D.first disk.old) (D.calls disk.old)) (λ h. AllLieIn ready.old.plan (length (shown h)) ready.old.steps → D.strays disk.new ≡ D.strays disk.old) }
+    ensures disk_strays { IfSome (history_told (D.first disk.old) (D.calls disk.old)) (λ h. AllLieIn ready.old.plan (length (held h)) ready.old.steps → D.strays disk.new ≡ D.strays disk.old) }
     ensures source_strays { IfSome (S.told sources.old) (λ files. All (HasFile files ready.old.paths) ready.old.steps → S.strays sources.new ≡ S.strays sources.old) }
 {
     make_steps(

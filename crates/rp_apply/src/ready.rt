@@ -1,5 +1,4 @@
 ghost use Rattle.std.specs.Prelude.{◌≡◌, ◌≤◌, All, IfOk, length};
-ghost use Rattle.rp_base.specs.Geometry.{least_sectors};
 ghost use Rattle.rp_base.specs.Plan.{IsWellFormed, noted_of};
 ghost use Rattle.rp_stops.specs.Order.{target_sectors as target_sectors_of};
 ghost use Rattle.rp_steps.specs.Writes.{writes as writes_in};
@@ -50,7 +49,6 @@ pub fn prepare(
     defs: &[Definition],
 ) -> Result<Ready, Memory>
     requires well_formed { IsWellFormed seen.now plan.now }
-    requires room { least_sectors plan.now.goal.sector plan.now.goal.entries ≤ target_sectors_of plan.now }
     requires sources { All (NamesSource defs.now) plan.now.notes }
     ensures { IfOk result (IsReadyFor plan.now seen.now defs.now) }
 {

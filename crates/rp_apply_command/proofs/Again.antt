@@ -6,7 +6,7 @@ use Rattle.rp_base.specs.declared.plan.Plan.{Plan}
 use Rattle.rp_base.specs.declared.seen.Seen.{Seen}
 use Rattle.rp_defs.specs.declared.definition.Definition.{Definition}
 use Rattle.rp_disk.specs.Blocks.{flat}
-use Rattle.rp_disk.specs.History.{shown}
+use Rattle.rp_disk.specs.History.{held}
 use Rattle.rp_disk.specs.Made.{history_of}
 use Rattle.rp_disk.specs.Runs.{MadeFirst}
 use Rattle.rp_disk.specs.declared.call.Call.{Call}
@@ -61,23 +61,23 @@ greatest a b le = grind arith
 -- a run on an idle image whose length isn't to grow
 pub no_more : (request : Request) (list : List Definition) (disk later : Device) (sources : Store (List Stored)) (planned : Planned)
     (calls : List Call) (bytes : List ℕ) → CarriesSome request list disk later sources planned calls → disk.first ≡ Some bytes
-    → IsIdle request.sector (shown (history_of bytes disk.calls)) list request.seed
-    → request.size ≤ length (shown (history_of bytes disk.calls)) → calls ≡ []
+    → IsIdle request.sector (held (history_of bytes disk.calls)) list request.seed
+    → request.size ≤ length (held (history_of bytes disk.calls)) → calls ≡ []
 no_more request list disk later sources planned calls bytes some tells idle long =
     let safe : StopsSafely request list disk later planned some.are.body bytes =
     subst (λ o. IfSome o (StopsSafely request list disk later planned some.are.body)) tells some.stops in
     let known = safe.goal.1 in
-    let len = (accepted-sized request.sector (shown (history_of bytes disk.calls)) request.empty planned.seen known.of_sector known.seen_of).1.len in
+    let len = (accepted-sized request.sector (held (history_of bytes disk.calls)) request.empty planned.seen known.of_sector known.seen_of).1.len in
     let target : target_of request.size planned.seen ≡ planned.seen.sectors = greatest planned.seen.sectors (request.size / 512) (omega (arith, len, long)) in
     none_alike planned.seen planned.plan calls
-    (no_calls request.sector (shown (history_of bytes disk.calls)) list request.seed request.empty planned.seen safe.goal.0 planned.plan
+    (no_calls request.sector (held (history_of bytes disk.calls)) list request.seed request.empty planned.seen safe.goal.0 planned.plan
     no_sources idle known.seen_of known.known
     (subst (λ t. goal planned.seen t list safe.goal.0 request.seed ≡ Ok planned.plan) target known.goal_is)) some.are
 
 pub made_no_more : (request : Request) (list : List Definition) (disk later : Device) (sources : Store (List Stored)) (planned : Planned)
     (calls : List Call) (bytes : List ℕ) → CarriesSome request list disk later sources planned calls → disk.first ≡ Some bytes
-    → IsIdle request.sector (shown (history_of bytes disk.calls)) list request.seed
-    → request.size ≤ length (shown (history_of bytes disk.calls)) → MadeFirst disk.calls (Sync ∷ []) later.calls
+    → IsIdle request.sector (held (history_of bytes disk.calls)) list request.seed
+    → request.size ≤ length (held (history_of bytes disk.calls)) → MadeFirst disk.calls (Sync ∷ []) later.calls
 made_no_more request list disk later sources planned calls bytes some tells idle long =
     subst (λ l. MadeFirst disk.calls (Sync ∷ l) later.calls)
     (no_more request list disk later sources planned calls bytes some tells idle long) some.made

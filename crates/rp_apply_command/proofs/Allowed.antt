@@ -5,7 +5,7 @@ use Rattle.std.specs.List.{enumerate_from}
 use Rattle.std.specs.Option.{option_map}
 use Rattle.std.proofs.lemmas.Bool.{eqb-true}
 use Rattle.std.proofs.lemmas.List.Elements.{All-append, All-cons, All-head, All-nil, All-tail}
-use Rattle.rp_base.specs.Geometry.{IsSector, least_sectors, sector_units}
+use Rattle.rp_base.specs.Geometry.{IsSector}
 use Rattle.rp_base.specs.Plan.{IsWellFormed as IsPlan}
 use Rattle.rp_base.specs.declared.guid.Guid.{Guid}
 use Rattle.rp_base.specs.declared.plan.Note.{Note}
@@ -13,7 +13,7 @@ use Rattle.rp_base.specs.declared.plan.Plan.{Plan}
 use Rattle.rp_base.specs.declared.seen.Seen.{Seen}
 use Rattle.rp_base.specs.declared.table.Row.{Row}
 use Rattle.rp_defs.specs.declared.definition.Definition.{Definition}
-use Rattle.rp_disk.specs.History.{History, shown}
+use Rattle.rp_disk.specs.History.{History, held}
 use Rattle.rp_disk.specs.Made.{history_told}
 use Rattle.rp_facts.specs.Sourced.{IsSourced}
 use Rattle.rp_facts.proofs.Wanted.{wanted_sourced}
@@ -91,13 +91,6 @@ module _ (seen : Seen) (defs : List Definition) (facts : List Fact) (seed : Guid
       (All-append (NamesSource defs) _ _ (old_named plan.goal.rows (enumerate_from 0 seen.shown.rows))
       (new_named (first_free seen.shown.rows) kept (enumerate_from (first_free seen.shown.rows) (kept_of matched made.1.threshold defs))))
 
--- a target of more sectors has no fewer of the larger
-more_sectors : (sector least target : ℕ) → IsSector sector → least ≤ target → least / sector_units sector ≤ target / sector_units sector
-more_sectors sector least target (inl small) more =
-    subst (λ (s : ℕ). least / sector_units s ≤ target / sector_units s) (sym small) (omega (arith, more))
-more_sectors sector least target (inr large) more =
-    subst (λ (s : ℕ). least / sector_units s ≤ target / sector_units s) (sym large) (omega (arith, more))
-
 module _ (request : Request) (list : List Definition) (disk later : Device) (sources drained : Store (List Stored)) (planned : Planned)
     (of_sector : IsSector request.sector) where
   -- what was seen and known
@@ -132,17 +125,8 @@ module _ (request : Request) (list : List Definition) (disk later : Device) (sou
   pub can_prepare : PlansImage request list disk later sources drained (Ok planned) → IsPlan planned.seen planned.plan → CanPrepare list planned
   can_prepare plans formed =
       let k = known plans in
-      let sector_is : planned.plan.goal.sector ≡ request.sector =
-      formed.sector ∙ ap (λ (s : Seen). s.shown.sector) k.same ∙ k.reads.seen.of_sector in
-      let entries_are : planned.plan.goal.entries ≡ k.seen.shown.entries = formed.entries ∙ ap (λ (s : Seen). s.shown.entries) k.same in
-      let least : k.seen.sectors ≤ planned.plan.target = subst (λ (s : Seen). s.sectors ≤ planned.plan.target) k.same formed.target.least in
-      let more = more_sectors request.sector k.seen.sectors planned.plan.target of_sector least in
-      let here : least_sectors request.sector k.seen.shown.entries ≤ planned.plan.target / sector_units request.sector =
-      omega (arith, k.reads.seen.room, more) in
       record {
         formed = formed;
-        room = subst (λ (s : ℕ). least_sectors s planned.plan.goal.entries ≤ planned.plan.target / sector_units s) (sym sector_is)
-            (subst (λ (n : ℕ). least_sectors request.sector n ≤ planned.plan.target / sector_units request.sector) (sym entries_are) here);
         named = goal_named k.seen list k.facts request.seed k.are (target_of request.size k.seen) planned.plan k.is;
       }
 
@@ -150,14 +134,14 @@ module _ (request : Request) (list : List Definition) (disk later : Device) (sou
   pub seen_length : PlansImage request list disk later sources drained (Ok planned) → HasSeenLength planned later
   seen_length plans =
       let k = known plans in
-      let at : IfSome (history disk) (λ h. length (shown h) ≡ 512 * planned.seen.sectors) = by_history k (history disk) k.reads.settled in
-      subst (λ o. IfSome (history_told o later.calls) (λ h. length (shown h) ≡ 512 * planned.seen.sectors)) (sym k.reads.only_read.first)
-      (subst (λ l. IfSome (history_told disk.first l) (λ h. length (shown h) ≡ 512 * planned.seen.sectors)) (sym k.reads.only_read.calls) at) where
+      let at : IfSome (history disk) (λ h. length (held h) ≡ 512 * planned.seen.sectors) = by_history k (history disk) k.reads.settled in
+      subst (λ o. IfSome (history_told o later.calls) (λ h. length (held h) ≡ 512 * planned.seen.sectors)) (sym k.reads.only_read.first)
+      (subst (λ l. IfSome (history_told disk.first l) (λ h. length (held h) ≡ 512 * planned.seen.sectors)) (sym k.reads.only_read.calls) at) where
         by_history : (k : Known) (o : Option History)
-            → IfSome o (λ h. Settles disk_refusal (seen_of request.sector request.empty (shown h)) (Ok k.seen))
-            → IfSome o (λ h. length (shown h) ≡ 512 * planned.seen.sectors)
+            → IfSome o (λ h. Settles disk_refusal (seen_of request.sector request.empty (held h)) (Ok k.seen))
+            → IfSome o (λ h. length (held h) ≡ 512 * planned.seen.sectors)
         by_history k None settles = tt
         by_history k (Some h) settles =
-            let is = accepted_of (accepted request.sector (shown h) request.empty) k.seen
-            (settled_ok disk_refusal (seen_of request.sector request.empty (shown h)) k.seen settles) in
-            (accepted-sized request.sector (shown h) request.empty k.seen of_sector is).1.len ∙ ap (λ (s : Seen). 512 * s.sectors) (sym k.same)
+            let is = accepted_of (accepted request.sector (held h) request.empty) k.seen
+            (settled_ok disk_refusal (seen_of request.sector request.empty (held h)) k.seen settles) in
+            (accepted-sized request.sector (held h) request.empty k.seen of_sector is).1.len ∙ ap (λ (s : Seen). 512 * s.sectors) (sym k.same)

@@ -7,7 +7,7 @@ use Rattle.rp_base.specs.declared.plan.Role.{Role}
 use Rattle.rp_base.specs.declared.plan.Role.TheVariants.{Plain, Data, Hash}
 use Rattle.rp_base.specs.declared.seen.Seen.{Seen}
 use Rattle.rp_defs.specs.declared.definition.Definitions.{Definitions}
-use Rattle.rp_disk.specs.History.{History, shown}
+use Rattle.rp_disk.specs.History.{History, held}
 use Rattle.rp_disk.specs.Made.{Made, history_of, history_told}
 use Rattle.rp_disk.specs.Runs.{Runs}
 use Rattle.rp_disk.specs.declared.call.Call.{Call}
@@ -158,7 +158,7 @@ module _ (definitions : Definitions) (planned : Planned) (disk later : Device) (
     by : (o : Option (List ℕ)) (t : Option (List Stored))
         → MakesSteps planned.plan (outside_of t (paths_of definitions.list) o) (steps planned.plan planned.seen) founds disk.calls
         later.calls result
-        → IfSome (history_told o disk.calls) (λ h. length (shown h) ≡ 512 * planned.seen.sectors)
+        → IfSome (history_told o disk.calls) (λ h. length (held h) ≡ 512 * planned.seen.sectors)
         → IfSome (history_told o disk.calls) (λ h. IfSome t (Exact founds result))
     by None t m l = tt
     by (Some bytes) None m l = tt
@@ -166,16 +166,16 @@ module _ (definitions : Definitions) (planned : Planned) (disk later : Device) (
         let from = sources_in files (paths_of definitions.list) in (
           all_tied planned.plan (outside_of (Some files) (paths_of definitions.list) (Some bytes)) files bytes refl refl disk.calls founds
               (steps planned.plan planned.seen) m.found_are
-              (laid planned.plan from planned.seen formed fit (shown (history_of bytes disk.calls)) l),
+              (laid planned.plan from planned.seen formed fit (held (history_of bytes disk.calls)) l),
           unchanged planned.plan from result
               (changes_at planned.seen planned.plan formed fit (paths_of definitions.list) files bytes founds disk.calls later.calls result m l),
         )
 
-  strays_are : IfSome (history disk) (λ h. length (shown h) ≡ 512 * planned.seen.sectors → later.strays ≡ disk.strays)
+  strays_are : IfSome (history disk) (λ h. length (held h) ≡ 512 * planned.seen.sectors → later.strays ≡ disk.strays)
       → IfSome (history disk) (λ h. later.strays ≡ disk.strays)
   strays_are stays = by (history disk) long stays where
-    by : (o : Option History) → IfSome o (λ h. length (shown h) ≡ 512 * planned.seen.sectors)
-        → IfSome o (λ h. length (shown h) ≡ 512 * planned.seen.sectors → later.strays ≡ disk.strays)
+    by : (o : Option History) → IfSome o (λ h. length (held h) ≡ 512 * planned.seen.sectors)
+        → IfSome o (λ h. length (held h) ≡ 512 * planned.seen.sectors → later.strays ≡ disk.strays)
         → IfSome o (λ h. later.strays ≡ disk.strays)
     by None l s = tt
     by (Some h) l s = s l
@@ -183,7 +183,7 @@ module _ (definitions : Definitions) (planned : Planned) (disk later : Device) (
   pub carries : {T : Type 0} (result : Result T ApplyFault) → later.first ≡ disk.first → drained.told ≡ sources.told
       → (founds : List Found) × MakesSteps ready.plan (outside_of sources.told ready.paths disk.first) ready.steps founds disk.calls later.calls result
       → HasDiskCause disk.faults later.faults result → HasSourceCause sources.faults drained.faults result
-      → IfSome (history disk) (λ h. length (shown h) ≡ 512 * ready.seen.sectors → later.strays ≡ disk.strays)
+      → IfSome (history disk) (λ h. length (held h) ≡ 512 * ready.seen.sectors → later.strays ≡ disk.strays)
       → (calls : List Call) × CarriesOut definitions planned disk later sources drained calls (outcome_of result)
   carries result first told made of_disk of_sources strays =
       let founds = made.0 in
@@ -204,7 +204,7 @@ module _ (definitions : Definitions) (planned : Planned) (disk later : Device) (
           are = like.0;
           exact = exact_is founds result makes;
           ran = runs_as disk.calls later.calls (all_calls planned.plan founds (steps planned.plan planned.seen)) result makes.ran;
-          strays = strays_are (subst (λ (s : Seen). IfSome (history disk) (λ h. length (shown h) ≡ 512 * s.sectors → later.strays ≡ disk.strays))
+          strays = strays_are (subst (λ (s : Seen). IfSome (history disk) (λ h. length (held h) ≡ 512 * s.sectors → later.strays ≡ disk.strays))
               is.seen_is strays);
           refusal = refusal_is founds result makes;
           cause = record {

@@ -5,7 +5,7 @@ use Rattle.rp_idle.specs.Idle.{IsIdle}
 use Rattle.rp_base.specs.Geometry.{IsSector}
 use Rattle.rp_defs.specs.declared.definition.Definition.{Definition}
 use Rattle.rp_defs.specs.declared.definition.Definitions.{Definitions}
-use Rattle.rp_disk.specs.History.{shown}
+use Rattle.rp_disk.specs.History.{held}
 use Rattle.rp_disk.specs.Made.{dones, history_of}
 use Rattle.rp_disk.specs.Runs.{MadeFirst}
 use Rattle.rp_disk.specs.declared.call.Call.{Call}
@@ -137,8 +137,8 @@ pub ends_idle : (request : Request) (json : Bool) (dirs : List (List ℕ)) (fold
     → Applies request json dirs folders read disk later sources drained out after status
     → (bytes : List ℕ) (tree : Tree) (definitions : Definitions) → disk.first ≡ Some bytes → folders.told ≡ Some tree
     → definitions_in request.arch tree dirs ≡ Ok definitions
-    → IsIdle request.sector (shown (history_of bytes disk.calls)) definitions.list request.seed
-    → request.size ≤ length (shown (history_of bytes disk.calls)) → MadeFirst disk.calls (Sync ∷ []) later.calls
+    → IsIdle request.sector (held (history_of bytes disk.calls)) definitions.list request.seed
+    → request.size ≤ length (held (history_of bytes disk.calls)) → MadeFirst disk.calls (Sync ∷ []) later.calls
 ends_idle request json dirs folders read disk later sources drained out after status of_sector whole most applies bytes tree definitions
     tells told are idle long =
     by_end (ends_so request json dirs folders read disk later sources drained out after status of_sector whole most applies) where
@@ -146,11 +146,11 @@ ends_idle request json dirs folders read disk later sources drained out after st
       same_ok a b e = cc
 
       same : (others : Definitions) → AreRead request dirs folders others
-          → IsIdle request.sector (shown (history_of bytes disk.calls)) others.list request.seed
+          → IsIdle request.sector (held (history_of bytes disk.calls)) others.list request.seed
       same others read_so =
           let found : definitions_in request.arch tree dirs ≡ Ok others =
           subst (λ o. IfSome o (λ tree. definitions_in request.arch tree dirs ≡ Ok others)) told read_so.told in
-          subst (λ (d : Definitions). IsIdle request.sector (shown (history_of bytes disk.calls)) d.list request.seed)
+          subst (λ (d : Definitions). IsIdle request.sector (held (history_of bytes disk.calls)) d.list request.seed)
           (same_ok definitions others (sym are ∙ found)) idle
 
       by_end : Ends request json dirs folders disk later sources out after status → MadeFirst disk.calls (Sync ∷ []) later.calls

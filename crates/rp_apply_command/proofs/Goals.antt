@@ -11,7 +11,7 @@ use Rattle.rp_defs.specs.WellFormed.{IsWellFormed}
 use Rattle.rp_defs.specs.declared.definition.Definition.{Definition}
 use Rattle.rp_demand.specs.declared.demand.Demand.{Demand}
 use Rattle.rp_demand.specs.declared.demand.Demand.TheVariants as demands
-use Rattle.rp_disk.specs.History.{History, shown}
+use Rattle.rp_disk.specs.History.{History, held}
 use Rattle.rp_gpt.specs.Accepted.{IsSeen}
 use Rattle.rp_gpt.specs.Shown.{accepted}
 use Rattle.rp_gpt.specs.declared.table_fault.TableFault.{TableFault}
@@ -69,22 +69,22 @@ module _ (request : Request) (list : List Definition) (disk later : Device) (sou
     (of_sector : IsSector request.sector) (whole : request.size % 4096 ≡ 0) (most : request.size ≤ 2 ^ 44) (formed : IsWellFormed list)
     (fits : PlanFits planned) where
   abbrev Goal : Type 0
-  Goal = IfSome (history disk) (λ h. IsGoalOf request list (shown h) planned)
+  Goal = IfSome (history disk) (λ h. IsGoalOf request list (held h) planned)
 
   goal_at : (seen : Seen) (facts : List Fact) → ReadsImage request.sector request.empty disk later (Ok seen) → must_repair request.size seen ≡ false
       → AreFactsOn (wanted_of seen.shown list) facts → planned.seen ≡ seen
       → goal seen (target_of request.size seen) list facts request.seed ≡ Ok planned.plan → Goal
   goal_at seen facts reads none known same is =
       by_history (history disk) reads.settled where
-        by_history : (o : Option _) → IfSome o (λ h. Settles disk_refusal (seen_of request.sector request.empty (shown h)) (Ok seen))
-            → IfSome o (λ h. IsGoalOf request list (shown h) planned)
+        by_history : (o : Option _) → IfSome o (λ h. Settles disk_refusal (seen_of request.sector request.empty (held h)) (Ok seen))
+            → IfSome o (λ h. IsGoalOf request list (held h) planned)
         by_history None settles = tt
         by_history (Some h) settles =
-            let sight = accepted_of (accepted request.sector (shown h) request.empty) seen
-            (settled_ok disk_refusal (seen_of request.sector request.empty (shown h)) seen settles) in
+            let sight = accepted_of (accepted request.sector (held h) request.empty) seen
+            (settled_ok disk_refusal (seen_of request.sector request.empty (held h)) seen settles) in
             let aim = target_is request.sector request.size seen of_sector whole most reads.seen.whole reads.seen.most in
             subst (λ (s : Seen). (others : List Fact)
-            × IsPlanned request.sector (shown h) request.empty s (target_of request.size s) list others request.seed planned.plan) (sym same) (
+            × IsPlanned request.sector (held h) request.empty s (target_of request.size s) list others request.seed planned.plan) (sym same) (
               facts,
               record {
                 of_sector = of_sector;
@@ -212,21 +212,21 @@ module _ (request : Request) (list : List Definition) (disk later : Device) (sou
   ToldBy image files = planned_of request list image files ≡ Ok planned
 
   abbrev IsTold : Type 0
-  IsTold = IfSome (history disk) (λ h. IfSome sources.told (λ files. planned_of request list (shown h) files ≡ Ok planned))
+  IsTold = IfSome (history disk) (λ h. IfSome sources.told (λ files. planned_of request list (held h) files ≡ Ok planned))
 
   told_at : (seen : Seen) (known : List Fact) → ReadsImage request.sector request.empty disk later (Ok seen)
       → must_repair request.size seen ≡ false → AsksSources request.seed seen.shown list sources drained (Ok known)
       → Ok planned ≡ planned_by request list seen known → IsTold
   told_at seen known reads none asks is = by_both (history disk) sources.told reads.settled asks.settled where
     by_both : (o : Option History) (t : Option (List Stored))
-        → IfSome o (λ h. Settles disk_refusal (seen_of request.sector request.empty (shown h)) (Ok seen))
+        → IfSome o (λ h. Settles disk_refusal (seen_of request.sector request.empty (held h)) (Ok seen))
         → IfSome t (λ files. Settles source_refusal (Ok (facts request.seed files seen.shown list)) (Ok known))
-        → IfSome o (λ h. IfSome t (λ files. planned_of request list (shown h) files ≡ Ok planned))
+        → IfSome o (λ h. IfSome t (λ files. planned_of request list (held h) files ≡ Ok planned))
     by_both None t image settles = tt
     by_both (Some h) None image settles = tt
     by_both (Some h) (Some files) image settles =
         ap (λ (r : Result Seen Refusal). and_then r (λ s. planned_unless (must_repair request.size s) request list files s))
-        (settled_ok disk_refusal (seen_of request.sector request.empty (shown h)) seen image)
+        (settled_ok disk_refusal (seen_of request.sector request.empty (held h)) seen image)
         ∙ ap (λ b. planned_unless b request list files seen) none
         ∙ ap (planned_by request list seen) (same_facts known (facts request.seed files seen.shown list) settles) ∙ sym is
 

@@ -9,7 +9,7 @@ use Rattle.rp_base.specs.Plan.{IsWellFormed as IsPlan}
 use Rattle.rp_defs.specs.WellFormed.{IsWellFormed}
 use Rattle.rp_defs.specs.declared.definition.Definition.{Definition}
 use Rattle.rp_defs.specs.declared.definition.Definitions.{Definitions}
-use Rattle.rp_disk.specs.History.{History, shown}
+use Rattle.rp_disk.specs.History.{History, held}
 use Rattle.rp_disk.specs.Made.{Made, dones, history_of, history_told}
 use Rattle.rp_disk.specs.Runs.{AtAnyMomentBehindSync, EndsSettled, MadeFirst}
 use Rattle.rp_disk.specs.declared.call.Call.{Call}
@@ -39,7 +39,7 @@ use Rattle.rp_apply_command.proofs.Runs.{all_behind, ends_with_sync, made_behind
 -- no call, or a sync alone
 pub leaves_all : (disk later : Device) → MadeFirst disk.calls (Sync ∷ []) later.calls → LeavesAll disk later
 leaves_all disk later made = record { made = made; at_moments = by_first disk.first } where
-  by_first : (o : Option (List ℕ)) → IfSome o (λ bytes. AtEachMoment bytes disk later (IsUntouched (shown (history_of bytes disk.calls))))
+  by_first : (o : Option (List ℕ)) → IfSome o (λ bytes. AtEachMoment bytes disk later (IsUntouched (held (history_of bytes disk.calls))))
   by_first None = tt
   by_first (Some bytes) =
       is_untouched bytes disk.calls later.calls (any_moment_behind_sync (Some bytes) disk.calls later.calls [] made)
@@ -60,10 +60,10 @@ module _ (request : Request) (definitions : Definitions) (disk opened read later
   list = definitions.list
 
   abbrev old : List ℕ → List ℕ
-  old bytes = shown (history_of bytes disk.calls)
+  old bytes = held (history_of bytes disk.calls)
 
   abbrev IsGoalAt : History → Type 0
-  IsGoalAt h = IsGoalOf request definitions.list (shown h) planned
+  IsGoalAt h = IsGoalOf request definitions.list (held h) planned
 
   only : (read.first ≡ opened.first) × (read.calls ≡ opened.calls)
   only = only_read request list opened read sources asked (Ok planned) plans
@@ -99,18 +99,18 @@ module _ (request : Request) (definitions : Definitions) (disk opened read later
   told_of : (bytes : List ℕ) → disk.first ≡ Some bytes → (files : List Stored) → sources.told ≡ Some files
       → planned_of request list (old bytes) files ≡ Ok planned
   told_of bytes tells files told =
-      let on_disk : IfSome (history_told (Some bytes) opened.calls) (λ h. IfSome sources.told (IsToldAt (shown h))) =
-      subst (λ o. IfSome (history_told o opened.calls) (λ h. IfSome sources.told (IsToldAt (shown h)))) (first ∙ tells)
+      let on_disk : IfSome (history_told (Some bytes) opened.calls) (λ h. IfSome sources.told (IsToldAt (held h))) =
+      subst (λ o. IfSome (history_told o opened.calls) (λ h. IfSome sources.told (IsToldAt (held h)))) (first ∙ tells)
       (is_told request list opened read sources asked planned plans) in
-      let of_all : IfSome sources.told (IsToldAt (shown (history_of bytes opened.calls))) = on_disk in
-      let then : IsToldAt (shown (history_of bytes opened.calls)) files = subst (λ o. IfSome o (IsToldAt (shown (history_of bytes opened.calls)))) told of_all in
-      subst (λ image. IsToldAt image files) (ap (λ l. shown (history_of bytes l)) synced ∙ same_shown bytes disk.calls) then
+      let of_all : IfSome sources.told (IsToldAt (held (history_of bytes opened.calls))) = on_disk in
+      let then : IsToldAt (held (history_of bytes opened.calls)) files = subst (λ o. IfSome o (IsToldAt (held (history_of bytes opened.calls)))) told of_all in
+      subst (λ image. IsToldAt image files) (ap (λ l. held (history_of bytes l)) synced ∙ same_shown bytes disk.calls) then
 
   at_any : (bytes : List ℕ) → AtAnyMomentBehindSync (Some bytes) disk.calls calls later.calls
   at_any bytes = any_moment_behind_sync (Some bytes) disk.calls later.calls calls made
 
   module _ (bytes : List ℕ) (tells : disk.first ≡ Some bytes) where
-    known : IsGoalOf request definitions.list (shown (history_of bytes disk.calls)) planned
+    known : IsGoalOf request definitions.list (held (history_of bytes disk.calls)) planned
     known = goal_of bytes tells
 
     well_formed : IsPlan planned.seen planned.plan
@@ -161,17 +161,17 @@ module _ (request : Request) (definitions : Definitions) (disk opened read later
         (ends_settled (Some bytes) disk.calls later.calls split.0 (all ∙ ap (λ l. disk.calls ++ dones l) same))
 
     module _ (bytes : List ℕ) (tells : disk.first ≡ Some bytes) where
-      is : IsGoalOf request definitions.list (shown (history_of bytes disk.calls)) planned
+      is : IsGoalOf request definitions.list (held (history_of bytes disk.calls)) planned
       is = goal_of bytes tells
 
-      ends_so : AtTheEnd bytes later (HasGoal request.sector (shown (history_of bytes disk.calls)) planned.seen definitions.list request.seed planned.plan)
+      ends_so : AtTheEnd bytes later (HasGoal request.sector (held (history_of bytes disk.calls)) planned.seen definitions.list request.seed planned.plan)
       ends_so = ends_any request.sector bytes request.empty planned.seen (target_of request.size planned.seen) list is.0 request.seed
           planned.plan disk.calls later.calls is.1 carries.are.body calls (settled bytes)
           (are_calls_for planned.seen planned.plan calls (well_formed bytes tells) fits.notes carries.are)
 
       ends_exactly : (files : List Stored) → sources.told ≡ Some files → AtTheEnd bytes later
-          (IsDoneWith request.sector (shown (history_of bytes disk.calls)) planned.seen definitions.list request.seed planned.plan
-          (contents planned.plan (Given definitions.list files) (grown (shown (history_of bytes disk.calls)) planned.plan)))
+          (IsDoneWith request.sector (held (history_of bytes disk.calls)) planned.seen definitions.list request.seed planned.plan
+          (contents planned.plan (Given definitions.list files) (grown (held (history_of bytes disk.calls)) planned.plan)))
       ends_exactly files told =
           ends_with request.sector bytes request.empty planned.seen (target_of request.size planned.seen) list is.0 request.seed
           planned.plan disk.calls later.calls is.1 (Given list files)

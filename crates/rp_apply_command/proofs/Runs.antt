@@ -2,12 +2,12 @@
 use Rattle.std.proofs.Common.{◌≡◌, ◌∙◌, ℕ, List, [], ◌∷◌, ◌++◌, refl, sym, ap, append_assoc, append-nil}
 use Rattle.rp_disk.specs.Blocks.{flat}
 use Rattle.rp_disk.specs.Calls.{all_done}
-use Rattle.rp_disk.specs.History.{shown}
+use Rattle.rp_disk.specs.History.{held}
 use Rattle.rp_disk.specs.Made.{Made, Done, dones, history_of}
 use Rattle.rp_disk.specs.Runs.{AreFirst, MadeFirst}
 use Rattle.rp_disk.specs.declared.call.Call.{Call}
 use Rattle.rp_disk.specs.declared.call.Call.TheVariants.{Sync}
-use Rattle.rp_disk.proofs.Runs.{history_of-dones, shown-all_did}
+use Rattle.rp_disk.proofs.Runs.{history_of-dones, held-all_did}
 
 -- a sync was made, and then the first of these calls
 pub made_behind : (start mid new : List Made) (calls : List Call) → mid ≡ start ++ dones (Sync ∷ []) → MadeFirst mid calls new
@@ -32,8 +32,8 @@ pub made_sync : (start new : List Made) → new ≡ start ++ dones (Sync ∷ [])
 made_sync start new opened = (Done Sync ∷ [], (refl, tt), opened)
 
 -- a sync changes no byte
-pub same_shown : (bytes : List ℕ) (start : List Made) → shown (history_of bytes (start ++ dones (Sync ∷ []))) ≡ shown (history_of bytes start)
-same_shown bytes start = ap shown (history_of-dones bytes start (Sync ∷ [])) ∙ shown-all_did (history_of bytes start) (Sync ∷ [])
+pub same_shown : (bytes : List ℕ) (start : List Made) → held (history_of bytes (start ++ dones (Sync ∷ []))) ≡ held (history_of bytes start)
+same_shown bytes start = ap held (history_of-dones bytes start (Sync ∷ [])) ∙ held-all_did (history_of bytes start) (Sync ∷ [])
 
 -- a sync and blocks, each ended by a sync, end with one
 pub ends_with_sync : (blocks : List (List Call)) → (calls : List Call) × (Sync ∷ flat blocks ≡ calls ++ Sync ∷ [])

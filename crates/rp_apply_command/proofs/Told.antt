@@ -2,7 +2,7 @@
 use Rattle.std.proofs.Common.{◌≡◌, ◌⊎◌, ◌∙◌, ℕ, ◌≤◌, List, [], ◌∷◌, ◌++◌, Bool, Option, Some, None, Result, Ok, Err, refl, sym, ap, subst, inl, inr, arith}
 use Rattle.std.specs.Prelude.{IfErr, IfSome, IsErrAnd}
 use Rattle.rp_defs.specs.declared.definition.Definitions.{Definitions}
-use Rattle.rp_disk.specs.History.{shown}
+use Rattle.rp_disk.specs.History.{held}
 use Rattle.rp_disk.specs.Made.{dones, history_of, history_told}
 use Rattle.rp_disk.specs.declared.call.Call.{Call}
 use Rattle.rp_disk.specs.declared.call.Call.TheVariants.{Sync}
@@ -55,13 +55,13 @@ where_synced : (folders : Store Tree) (disk opened : Device) (sources : Store (L
 where_synced folders disk opened sources P first synced holds =
     by_both folders.told disk.first
     (subst (λ o. IfSome folders.told (λ tree. IfSome (history_told o (disk.calls ++ dones (Sync ∷ [])))
-    (λ h. IfSome sources.told (P tree (shown h))))) first
-    (subst (λ l. IfSome folders.told (λ tree. IfSome (history_told opened.first l) (λ h. IfSome sources.told (P tree (shown h)))))
+    (λ h. IfSome sources.told (P tree (held h))))) first
+    (subst (λ l. IfSome folders.told (λ tree. IfSome (history_told opened.first l) (λ h. IfSome sources.told (P tree (held h)))))
     synced holds))
   where
     by_both : (t : Option Tree) (o : Option (List ℕ))
-        → IfSome t (λ tree. IfSome (history_told o (disk.calls ++ dones (Sync ∷ []))) (λ h. IfSome sources.told (P tree (shown h))))
-        → IfSome t (λ tree. IfSome (history_told o disk.calls) (λ h. IfSome sources.told (P tree (shown h))))
+        → IfSome t (λ tree. IfSome (history_told o (disk.calls ++ dones (Sync ∷ []))) (λ h. IfSome sources.told (P tree (held h))))
+        → IfSome t (λ tree. IfSome (history_told o disk.calls) (λ h. IfSome sources.told (P tree (held h))))
     by_both None o told = tt
     by_both (Some tree) None told = tt
     by_both (Some tree) (Some bytes) told = subst (λ image. IfSome sources.told (P tree image)) (same_shown bytes disk.calls) told

@@ -7,7 +7,7 @@ use Rattle.rp_base.specs.declared.seen.Seen.{Seen}
 use Rattle.rp_defs.specs.WellFormed.{IsWellFormed}
 use Rattle.rp_defs.specs.declared.definition.Definition.{Definition}
 use Rattle.rp_defs.specs.declared.definition.Definitions.{Definitions}
-use Rattle.rp_disk.specs.History.{LeftSince, MayLeave, moment, shown}
+use Rattle.rp_disk.specs.History.{LeftSince, MayLeave, moment, held}
 use Rattle.rp_disk.specs.Made.{dones, history_of}
 use Rattle.rp_disk.specs.Runs.{MadeFirst}
 use Rattle.rp_disk.specs.declared.call.Call.{Call}
@@ -46,7 +46,7 @@ AtTheEnd bytes later P = (image : List ℕ) → MayLeave (history_of bytes later
 -- nothing was carried out: no call was made but a sync, and a stop since leaves the image that was shown
 pub record LeavesAll (disk later : Device) : Type 0 where
   pub made : MadeFirst disk.calls (Sync ∷ []) later.calls
-  pub at_moments : IfSome disk.first (λ bytes. AtEachMoment bytes disk later (IsUntouched (shown (history_of bytes disk.calls))))
+  pub at_moments : IfSome disk.first (λ bytes. AtEachMoment bytes disk later (IsUntouched (held (history_of bytes disk.calls))))
 
 -- the plan is the goal of the old table and the definitions, by facts that the sources told in this run
 abbrev pub IsGoalOf : Request → List Definition → List ℕ → Planned → Type 0
@@ -66,20 +66,20 @@ Given list files = sources_in files (paths_of list)
 -- bytes of each old row, and where the image grows torn, it is told by the premise on chance alone
 pub record StopsSafely (request : Request) (list : List Definition) (disk later : Device) (planned : Planned) (body : List Call)
     (bytes : List ℕ) : Type 0 where
-  pub goal : IsGoalOf request list (shown (history_of bytes disk.calls)) planned
+  pub goal : IsGoalOf request list (held (history_of bytes disk.calls)) planned
   pub at_moments : AtEachMoment bytes disk later
-      (StopsIfHonest request.sector (shown (history_of bytes disk.calls)) planned.seen planned.plan body)
+      (StopsIfHonest request.sector (held (history_of bytes disk.calls)) planned.seen planned.plan body)
 
 -- where the sources tell too: the plan is the goal by what they tell, and the calls are those of its steps; a stop leaves the old table or the goal with all that, and
 -- on a disk that writes each sector whole or not at all it does so without a premise on chance
 pub record StopsExactly (request : Request) (list : List Definition) (disk later : Device) (planned : Planned) (calls : List Call)
     (bytes : List ℕ) (files : List Stored) : Type 0 where
-  pub goal : planned_of request list (shown (history_of bytes disk.calls)) files ≡ Ok planned
+  pub goal : planned_of request list (held (history_of bytes disk.calls)) files ≡ Ok planned
   pub exact : calls ≡ calls_for planned.plan planned.seen (Given list files)
-  pub at_moments : AtEachMoment bytes disk later (IsSafeIfHonest request.sector (shown (history_of bytes disk.calls)) planned.seen
-      planned.plan (contents planned.plan (Given list files) (grown (shown (history_of bytes disk.calls)) planned.plan)))
-  pub at_whole : AtEachMoment bytes disk later (IsSafeIfWhole request.sector (shown (history_of bytes disk.calls)) planned.seen
-      planned.plan (contents planned.plan (Given list files) (grown (shown (history_of bytes disk.calls)) planned.plan)))
+  pub at_moments : AtEachMoment bytes disk later (IsSafeIfHonest request.sector (held (history_of bytes disk.calls)) planned.seen
+      planned.plan (contents planned.plan (Given list files) (grown (held (history_of bytes disk.calls)) planned.plan)))
+  pub at_whole : AtEachMoment bytes disk later (IsSafeIfWhole request.sector (held (history_of bytes disk.calls)) planned.seen
+      planned.plan (contents planned.plan (Given list files) (grown (held (history_of bytes disk.calls)) planned.plan)))
 
 -- a plan was carried out, or the first of its calls behind a sync: they are those of its steps
 pub record CarriesSome (request : Request) (list : List Definition) (disk later : Device) (sources : Store (List Stored))
@@ -98,10 +98,10 @@ pub record CarriesAll (request : Request) (list : List Definition) (disk later :
   pub some : CarriesSome request list disk later sources planned calls
   pub all : later.calls ≡ disk.calls ++ dones (Sync ∷ calls)
   pub ends : IfSome disk.first (λ bytes. AtTheEnd bytes later
-      (HasGoal request.sector (shown (history_of bytes disk.calls)) planned.seen list request.seed planned.plan))
+      (HasGoal request.sector (held (history_of bytes disk.calls)) planned.seen list request.seed planned.plan))
   pub ends_exactly : IfSome disk.first (λ bytes. IfSome sources.told (λ files. AtTheEnd bytes later
-      (IsDoneWith request.sector (shown (history_of bytes disk.calls)) planned.seen list request.seed planned.plan
-      (contents planned.plan (Given list files) (grown (shown (history_of bytes disk.calls)) planned.plan)))))
+      (IsDoneWith request.sector (held (history_of bytes disk.calls)) planned.seen list request.seed planned.plan
+      (contents planned.plan (Given list files) (grown (held (history_of bytes disk.calls)) planned.plan)))))
 
 -- statuses at which nothing is carried out, at which all is, and at which it may have been begun
 abbrev pub IsBefore : ℕ → Type 0

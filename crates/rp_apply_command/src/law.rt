@@ -3,7 +3,7 @@
 ghost use Rattle.std.specs.Prelude.{◌≡◌, ◌≤◌, ◌%◌, ◌^◌, ◌*◌, ℕ, Bool, List, [], ◌∷◌, Some, Ok, IsErrAnd, length};
 ghost use Rattle.rp_base.specs.Geometry.{IsSector};
 ghost use Rattle.rp_defs.specs.declared.definition.Definitions.{Definitions};
-ghost use Rattle.rp_disk.specs.History.{shown};
+ghost use Rattle.rp_disk.specs.History.{held};
 ghost use Rattle.rp_disk.specs.Made.{history_of};
 ghost use Rattle.rp_disk.specs.Runs.{MadeFirst};
 ghost use Rattle.rp_disk.specs.declared.call.Call.{Call};
@@ -37,8 +37,8 @@ pub fn apply_on_an_idle_image()
         → Applies request json dirs folders read disk later sources drained out after status
         → (bytes : List ℕ) (tree : Tree) (definitions : Definitions) → disk.first ≡ Some bytes → folders.told ≡ Some tree
         → definitions_in request.arch tree dirs ≡ Ok definitions
-        → IsIdle request.sector (shown (history_of bytes disk.calls)) definitions.list request.seed
-        → request.size ≤ length (shown (history_of bytes disk.calls)) → MadeFirst disk.calls (Call.Sync ∷ []) later.calls }
+        → IsIdle request.sector (held (history_of bytes disk.calls)) definitions.list request.seed
+        → request.size ≤ length (held (history_of bytes disk.calls)) → MadeFirst disk.calls (Call.Sync ∷ []) later.calls }
 {}
 
 /// What is refused, and how: at 3, 4 and 5, where folders, disk and sources tell, the first refusal of what they tell has that

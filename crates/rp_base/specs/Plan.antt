@@ -1,6 +1,6 @@
 -- What a plan must be to be carried out on an image of which this was seen: own rules.
 use Rattle.std.specs.Prelude.{ℕ, ◌≡◌, ◌≢◌, ◌≤◌, ◌*◌, ◌/◌, ◌%◌, ◌^◌, ◌⊎◌, List, All, Any, map, zip, IfSome, IsSome, ⊤}
-use Rattle.rp_base.specs.Table.{IsWhole, IsWritable, IsLaidOut, IsBounded, AreApart}
+use Rattle.rp_base.specs.Table.{IsWhole, IsWritable, IsInPlace, AreApart}
 use Rattle.rp_base.specs.Trees.{hash_blocks}
 use Rattle.rp_base.specs.declared.guid.Guid.{Guid}
 use Rattle.rp_base.specs.declared.table.Row.{Row}
@@ -46,15 +46,14 @@ pub record IsTarget (sector units target : ℕ) : Type 0 where
   pub least : units ≤ target
   pub most : target ≤ 2 ^ 35
 
--- the goal can be written on a disk of the target's length and has the sectors and entries of the shown table; each of its
--- rows has its note, its source fits, and pairs are whole
+-- the goal can be written, is in place on a disk of the target's length, and has the sectors and entries of the shown table;
+-- each of its rows has its note, its source fits, and pairs are whole
 pub record IsWellFormed (seen : Seen) (plan : Plan) : Type 0 where
   pub target : IsTarget plan.goal.sector seen.sectors plan.target
   pub sector : plan.goal.sector ≡ seen.shown.sector
   pub entries : plan.goal.entries ≡ seen.shown.entries
   pub writable : IsWritable plan.goal
-  pub bounded : IsBounded plan.target plan.goal
-  pub rows : IsLaidOut plan.goal
+  pub in_place : IsInPlace plan.target plan.goal
   pub notes : map (λ note. note.slot) plan.notes ≡ map (λ row. row.slot) plan.goal.rows
   pub sources : All HoldsSource (noted_of plan)
   pub pairs : All (λ noted. HasPartner (noted_of plan) noted noted.1.role) (noted_of plan)

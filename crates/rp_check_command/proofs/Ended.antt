@@ -9,7 +9,7 @@ use Rattle.rp_check_command.specs.Statuses.{CheckByStatus, told_difference}
 use Rattle.rp_defs.specs.declared.definition.Definitions.{Definitions}
 use Rattle.rp_difference.specs.Difference.{difference}
 use Rattle.rp_difference.specs.declared.difference.Difference.{Difference}
-use Rattle.rp_disk.specs.History.{History, shown}
+use Rattle.rp_disk.specs.History.{History, held}
 use Rattle.rp_io.specs.Files.{Tree}
 use Rattle.rp_io.specs.declared.stored.Stored.{Stored}
 use Rattle.rp_outcome.specs.Device.{Device, IsOnlyRead, history}
@@ -89,8 +89,8 @@ module _ (seed : Guid) (arch : Arch) (sector : ℕ) (dirs : List (List ℕ)) (fo
     refused = λ f.
         where_more folders.told (history disk) sources.told _ _
         (λ tree h files is. refused_then (λ refusal. (refusal.status ≡ status) × Prints out after (line_of refusal))
-        (told_plan (check_request seed arch sector) dirs tree (shown h) files)
-        (λ told. Ok (difference (shown h) arch told.1.seen told.1.plan)) is) (known.refused f);
+        (told_plan (check_request seed arch sector) dirs tree (held h) files)
+        (λ told. Ok (difference (held h) arch told.1.seen told.1.plan)) is) (known.refused f);
     disk_line = known.disk_line;
     nothing = nothing;
   } where

@@ -9,7 +9,7 @@ use Rattle.rp_check_command.specs.Checks.{ChecksPlanned, Tells}
 use Rattle.rp_defs.specs.declared.definition.Definition.{Definition}
 use Rattle.rp_difference.specs.Difference.{difference}
 use Rattle.rp_difference.specs.declared.difference.Difference.{Difference}
-use Rattle.rp_disk.specs.History.{History, shown}
+use Rattle.rp_disk.specs.History.{History, held}
 use Rattle.rp_disk.specs.Made.{Made, history_told}
 use Rattle.rp_gpt.specs.Accepted.{IsSeen}
 use Rattle.rp_io.specs.declared.stored.Stored.{Stored}
@@ -34,16 +34,16 @@ seen_of_plan request list disk later sources drained planned plans =
 -- and its length, as the disk still tells
 pub len_of_plan : (request : Request) (list : List Definition) (disk later : Device) (sources drained : Store (List Stored)) (planned : Planned)
     → IsSector request.sector → PlansImage request list disk later sources drained (Ok planned)
-    → IfSome (history later) (λ h. length (shown h) ≡ 512 * planned.seen.sectors)
+    → IfSome (history later) (λ h. length (held h) ≡ 512 * planned.seen.sectors)
 len_of_plan request list disk later sources drained planned is plans =
     let from = planned_from request list disk later sources drained planned plans in
-    still_told (λ h. length (shown h) ≡ 512 * planned.seen.sectors) disk later from.reads.only_read
+    still_told (λ h. length (held h) ≡ 512 * planned.seen.sectors) disk later from.reads.only_read
     (image_len request.sector request.empty disk later planned.seen is from.reads)
 
 -- no call passed the end
 no_strays : (end before now : ℕ) (first : Option (List ℕ)) (calls : List Made)
-    → IfSome (history_told first calls) (λ h. end ≤ length (shown h) → now ≡ before)
-    → IfSome (history_told first calls) (λ h. length (shown h) ≡ end) → IfSome first (λ _. now ≡ before)
+    → IfSome (history_told first calls) (λ h. end ≤ length (held h) → now ≡ before)
+    → IfSome (history_told first calls) (λ h. length (held h) ≡ end) → IfSome first (λ _. now ≡ before)
 no_strays end before now None calls kept len = tt
 no_strays end before now (Some bytes) calls kept len = kept (omega (arith, len))
 
@@ -66,7 +66,7 @@ module _ (arch : Arch) (planned : Planned) (disk : Device) (out after : Output) 
     same (Some bytes) = refl
 
     settles : (o : Option History)
-        → IfSome o (λ h. Settles disk_refusal (Ok (difference (shown h) arch planned.seen planned.plan)) (Err memory_refusal))
+        → IfSome o (λ h. Settles disk_refusal (Ok (difference (held h) arch planned.seen planned.plan)) (Err memory_refusal))
     settles None = tt
     settles (Some h) = inr (inr refl)
 
@@ -74,8 +74,8 @@ module _ (arch : Arch) (planned : Planned) (disk : Device) (out after : Output) 
     apart e = let h : ◌≡◌ {A = ℕ} 10 7 = ap (λ (r : Refusal). r.status) (same_err {T = Option Difference} memory_refusal disk_refusal e) in omega arith
 
   module _ (later : Device) (first : later.first ≡ disk.first) (calls : later.calls ≡ disk.calls)
-      (strays : IfSome (history disk) (λ h. 512 * planned.seen.sectors ≤ length (shown h) → later.strays ≡ disk.strays))
-      (len : IfSome (history disk) (λ h. length (shown h) ≡ 512 * planned.seen.sectors)) where
+      (strays : IfSome (history disk) (λ h. 512 * planned.seen.sectors ≤ length (held h) → later.strays ≡ disk.strays))
+      (len : IfSome (history disk) (λ h. length (held h) ≡ 512 * planned.seen.sectors)) where
     only_read : IsOnlyRead disk later
     only_read = record {
       first = first;
@@ -97,12 +97,12 @@ module _ (arch : Arch) (planned : Planned) (disk : Device) (out after : Output) 
       subst (λ (r : Refusal). Refuses out after r status) is refuses,
     ) where
       settles : (o : Option History)
-          → IfSome o (λ h. Settles disk_refusal (Ok (difference (shown h) arch planned.seen planned.plan)) (Err disk_refusal))
+          → IfSome o (λ h. Settles disk_refusal (Ok (difference (held h) arch planned.seen planned.plan)) (Err disk_refusal))
       settles None = tt
       settles (Some h) = inr (inl refl)
 
     -- what differs is known
-    pub with_found : (found : Option Difference) → IfSome (history disk) (λ h. found ≡ difference (shown h) arch planned.seen planned.plan)
+    pub with_found : (found : Option Difference) → IfSome (history disk) (λ h. found ≡ difference (held h) arch planned.seen planned.plan)
         → later.faults ≡ disk.faults → Tells out after status (Ok found) → ChecksPlanned arch disk later out after status (Ok planned)
     with_found found is kept tells = (
       Ok found,
@@ -114,8 +114,8 @@ module _ (arch : Arch) (planned : Planned) (disk : Device) (out after : Output) 
       },
       tells,
     ) where
-      settles : (o : Option History) → IfSome o (λ h. found ≡ difference (shown h) arch planned.seen planned.plan)
-          → IfSome o (λ h. Settles disk_refusal (Ok (difference (shown h) arch planned.seen planned.plan)) (Ok found))
+      settles : (o : Option History) → IfSome o (λ h. found ≡ difference (held h) arch planned.seen planned.plan)
+          → IfSome o (λ h. Settles disk_refusal (Ok (difference (held h) arch planned.seen planned.plan)) (Ok found))
       settles None is = tt
       settles (Some h) is = inl (ap Ok is)
 

@@ -7,7 +7,7 @@ use Rattle.rp_check_command.proofs.Sighted.{settled_ok}
 use Rattle.rp_defs.specs.declared.definition.Definition.{Definition}
 use Rattle.rp_demand.specs.declared.demand.Demand.{Demand}
 use Rattle.rp_demand.specs.declared.demand.Demand.TheVariants as demands
-use Rattle.rp_disk.specs.History.{History, shown}
+use Rattle.rp_disk.specs.History.{History, held}
 use Rattle.rp_io.specs.declared.stored.Stored.{Stored}
 use Rattle.rp_outcome.specs.Demands.{demand_refusal}
 use Rattle.rp_outcome.specs.Device.{Device, history}
@@ -94,17 +94,17 @@ module _ (request : Request) (list : List Definition) (disk later : Device) (sou
 
     -- where the disk and the sources tell, it is what is planned by what they tell
     pub planned_told : IsFrom
-        → IfSome (history disk) (λ h. IfSome sources.told (λ files. planned_of request list (shown h) files ≡ Ok planned))
+        → IfSome (history disk) (λ h. IfSome sources.told (λ files. planned_of request list (held h) files ≡ Ok planned))
     planned_told from = by_both (history disk) sources.told from.reads.settled from.asks.settled where
       by_both : (o : Option History) (t : Option (List Stored))
-          → IfSome o (λ h. Settles disk_refusal (seen_of request.sector request.empty (shown h)) (Ok planned.seen))
+          → IfSome o (λ h. Settles disk_refusal (seen_of request.sector request.empty (held h)) (Ok planned.seen))
           → IfSome t (λ files. Settles source_refusal (Ok (facts request.seed files planned.seen.shown list)) (Ok from.known))
-          → IfSome o (λ h. IfSome t (λ files. planned_of request list (shown h) files ≡ Ok planned))
+          → IfSome o (λ h. IfSome t (λ files. planned_of request list (held h) files ≡ Ok planned))
       by_both None t image settles = tt
       by_both (Some h) None image settles = tt
       by_both (Some h) (Some files) image settles =
           ap (λ (r : Result Seen Refusal). and_then r (λ s. planned_unless (must_repair request.size s) request list files s))
-          (settled_ok disk_refusal (seen_of request.sector request.empty (shown h)) planned.seen image)
+          (settled_ok disk_refusal (seen_of request.sector request.empty (held h)) planned.seen image)
           ∙ ap (λ (b : Bool). planned_unless b request list files planned.seen) from.repaired
           ∙ ap (planned_by request list planned.seen) (same_facts from.known (facts request.seed files planned.seen.shown list) settles)
           ∙ from.is

@@ -8,9 +8,9 @@ use Rattle.rp_base.specs.declared.seen.Origin.{Origin}
 use Rattle.rp_base.specs.declared.seen.Origin.TheVariants as origins
 use Rattle.rp_base.specs.declared.seen.Seen.{Seen}
 use Rattle.rp_base.specs.declared.table.Table.{Table}
-use Rattle.rp_disk.specs.History.{History, shown}
+use Rattle.rp_disk.specs.History.{History, held}
 use Rattle.rp_gpt.specs.Mbr.{foreign_type}
-use Rattle.rp_gpt.specs.Shown.{Told, shows, refuses, nothing, accepted, accepted_as, accepted_blank, accepted_table, blank, holds_exact, origin_of, seen_of, shown as shown_table, table_fault, unless, wider_copy}
+use Rattle.rp_gpt.specs.Shown.{Told, shows, refuses, nothing, accepted, accepted_as, accepted_blank, accepted_table, blank, holds_exact, origin_of, seen_of, shown, table_fault, unless, wider_copy}
 use Rattle.rp_gpt.specs.declared.table_fault.Empty.{Empty}
 use Rattle.rp_gpt.specs.declared.table_fault.Empty.TheVariants.{Refuse, Allow, Require}
 use Rattle.rp_gpt.specs.declared.table_fault.TableFault.{TableFault}
@@ -86,8 +86,8 @@ module _ (sector : ℕ) (image : List ℕ) where
   accepted_units empty =
       over_test (λ seen. HasUnits seen × (length image % sector ≡ 0)) (nat_lt (2 ^ 44) (length image)) (faults.TooLong (length image)) _ (λ long.
       over_test (λ seen. HasUnits seen × (length image % sector ≡ 0)) short (faults.TooShort (length image)) _ (λ e.
-      with_fact HasUnits (length image % sector ≡ 0) (accepted_as sector image empty (shown_table sector image))
-      (by_told empty (shown_table sector image)) (is_whole e)))
+      with_fact HasUnits (length image % sector ≡ 0) (accepted_as sector image empty (shown sector image))
+      (by_told empty (shown sector image)) (is_whole e)))
 
   accepted_len : (empty : Empty) (seen : Seen) → IsSector sector → accepted sector image empty ≡ Ok seen → length image ≡ 512 * seen.sectors
   accepted_len empty seen is e =
@@ -109,13 +109,13 @@ settled_ok failure ideal value (inr (inr e)) = absurd (cc)
 
 -- the length of an image that was read
 pub image_len : (sector : ℕ) (empty : Empty) (disk later : Device) (seen : Seen) → IsSector sector → ReadsImage sector empty disk later (Ok seen)
-    → IfSome (history disk) (λ h. length (shown h) ≡ 512 * seen.sectors)
+    → IfSome (history disk) (λ h. length (held h) ≡ 512 * seen.sectors)
 image_len sector empty disk later seen is reads = go (history disk) reads.settled where
-  go : (o : Option History) → IfSome o (λ h. Settles disk_refusal (sight_of sector empty (shown h)) (Ok seen))
-      → IfSome o (λ h. length (shown h) ≡ 512 * seen.sectors)
+  go : (o : Option History) → IfSome o (λ h. Settles disk_refusal (sight_of sector empty (held h)) (Ok seen))
+      → IfSome o (λ h. length (held h) ≡ 512 * seen.sectors)
   go None settles = tt
-  go (Some h) settles = accepted_len sector (shown h) empty seen is
-      (accepted_of (accepted sector (shown h) empty) seen (settled_ok disk_refusal (sight_of sector empty (shown h)) seen settles))
+  go (Some h) settles = accepted_len sector (held h) empty seen is
+      (accepted_of (accepted sector (held h) empty) seen (settled_ok disk_refusal (sight_of sector empty (held h)) seen settles))
 
 -- a disk that was only read tells what it told
 pub still_told : (P : History → Type 0) (before now : Device) → IsOnlyRead before now → IfSome (history before) P → IfSome (history now) P

@@ -9,7 +9,7 @@ use Rattle.rp_check_command.specs.Statuses.{CheckByStatus, told_difference}
 use Rattle.rp_defs.specs.declared.definition.Definitions.{Definitions}
 use Rattle.rp_difference.specs.Difference.{difference}
 use Rattle.rp_difference.specs.declared.difference.Difference.{Difference}
-use Rattle.rp_disk.specs.History.{History, shown}
+use Rattle.rp_disk.specs.History.{History, held}
 use Rattle.rp_io.specs.Files.{Tree}
 use Rattle.rp_io.specs.declared.stored.Stored.{Stored}
 use Rattle.rp_outcome.specs.Device.{Device, IsOnlyRead, history}
@@ -74,27 +74,27 @@ module _ (seed : Guid) (arch : Arch) (sector : ℕ) (dirs : List (List ℕ)) (fo
     -- what is told, by what is told of definitions, image and sources
     all_told : (found : Option Difference) (o : Option Tree) (p : Option History) (q : Option (List Stored))
         → IfSome o (λ tree. Settles folder_refusal (definitions_in arch tree dirs) (Ok definitions))
-        → IfSome p (λ h. IfSome q (λ files. planned_of (check_request seed arch sector) definitions.list (shown h) files ≡ Ok planned))
-        → IfSome p (λ h. Settles disk_refusal (Ok (difference (shown h) arch planned.seen planned.plan)) (Ok found))
-        → IfSome o (λ tree. IfSome p (λ h. IfSome q (λ files. told_difference seed arch sector dirs tree (shown h) files ≡ Ok found)))
+        → IfSome p (λ h. IfSome q (λ files. planned_of (check_request seed arch sector) definitions.list (held h) files ≡ Ok planned))
+        → IfSome p (λ h. Settles disk_refusal (Ok (difference (held h) arch planned.seen planned.plan)) (Ok found))
+        → IfSome o (λ tree. IfSome p (λ h. IfSome q (λ files. told_difference seed arch sector dirs tree (held h) files ≡ Ok found)))
     all_told found None p q listed told compared = tt
     all_told found (Some tree) None q listed told compared = tt
     all_told found (Some tree) (Some h) None listed told compared = tt
     all_told found (Some tree) (Some h) (Some files) listed told compared =
         ap (λ (d : Result Definitions Refusal). and_then {T = Definitions × Planned} (and_then d (λ definitions.
-        and_then (planned_of (check_request seed arch sector) definitions.list (shown h) files) (λ planned. Ok (definitions, planned))))
-        (λ told. Ok (difference (shown h) arch told.1.seen told.1.plan)))
+        and_then (planned_of (check_request seed arch sector) definitions.list (held h) files) (λ planned. Ok (definitions, planned))))
+        (λ told. Ok (difference (held h) arch told.1.seen told.1.plan)))
         (settled_ok folder_refusal (definitions_in arch tree dirs) definitions listed)
         ∙ ap (λ (p : Result Planned Refusal). and_then {T = Definitions × Planned} (and_then p (λ planned. Ok (definitions, planned)))
-        (λ told. Ok (difference (shown h) arch told.1.seen told.1.plan))) told
-        ∙ settled_ok disk_refusal (Ok (difference (shown h) arch planned.seen planned.plan)) found compared
+        (λ told. Ok (difference (held h) arch told.1.seen told.1.plan))) told
+        ∙ settled_ok disk_refusal (Ok (difference (held h) arch planned.seen planned.plan)) found compared
 
     says : (found : Option Difference) → Finds arch planned seen later (Ok found)
         → WhereTold folders disk sources (λ tree image files. told_difference seed arch sector dirs tree image files ≡ Ok found)
     says found finds =
         all_told found folders.told (history disk) sources.told reads.settled
         (planned_told (check_request seed arch sector) definitions.list disk seen sources drained planned from)
-        (told_before (λ h. Settles disk_refusal (Ok (difference (shown h) arch planned.seen planned.plan)) (Ok found)) disk seen from.reads.only_read
+        (told_before (λ h. Settles disk_refusal (Ok (difference (held h) arch planned.seen planned.plan)) (Ok found)) disk seen from.reads.only_read
         finds.settled)
 
     -- the disk's count as it was before, where it is as it was in between

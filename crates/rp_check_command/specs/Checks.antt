@@ -5,7 +5,7 @@ use Rattle.rp_check_command.specs.Reports.{difference_line, same_line}
 use Rattle.rp_defs.specs.declared.definition.Definitions.{Definitions}
 use Rattle.rp_difference.specs.Difference.{difference}
 use Rattle.rp_difference.specs.declared.difference.Difference.{Difference}
-use Rattle.rp_disk.specs.History.{shown}
+use Rattle.rp_disk.specs.History.{held}
 use Rattle.rp_gpt.specs.declared.table_fault.Empty.TheVariants.{Refuse}
 use Rattle.rp_io.specs.Files.{Tree}
 use Rattle.rp_io.specs.declared.stored.Stored.{Stored}
@@ -33,7 +33,7 @@ check_request seed arch sector = record { seed = seed; arch = arch; empty = Refu
 -- the disk tells its bytes, but for a failure of the disk, which it counted, and want of memory
 pub record Finds (arch : Arch) (planned : Planned) (before now : Device) (answer : Result (Option Difference) Refusal) : Type 0 where
   pub only_read : IsOnlyRead before now
-  pub settled : IfSome (history before) (λ h. Settles disk_refusal (Ok (difference (shown h) arch planned.seen planned.plan)) answer)
+  pub settled : IfSome (history before) (λ h. Settles disk_refusal (Ok (difference (held h) arch planned.seen planned.plan)) answer)
   pub refusal : IfErr answer (λ refusal. (refusal ≡ disk_refusal) ⊎ (refusal ≡ memory_refusal))
   pub cause : HasStageCause disk_refusal before.faults now.faults answer
 

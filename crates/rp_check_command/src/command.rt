@@ -2,7 +2,7 @@ ghost use Rattle.std.specs.Prelude.{◌≡◌, ◌*◌, IfSome, length};
 ghost use Rattle.rp_base.specs.Geometry.{IsSector};
 ghost use Rattle.rp_check_command.specs.Checks.{Checks, ChecksPlanned, ChecksRead, check_request as check_request_of};
 ghost use Rattle.rp_defs.specs.WellFormed.{IsWellFormed};
-ghost use Rattle.rp_disk.specs.History.{shown};
+ghost use Rattle.rp_disk.specs.History.{held};
 ghost use Rattle.rp_disk.specs.Made.{history_told};
 ghost use Rattle.rp_gpt.specs.Accepted.{IsSeen};
 ghost use Rattle.rp_outcome.specs.Device.{device};
@@ -98,7 +98,7 @@ fn check_planned<D: Disk, K: Sink>(
     out: &mut K,
 ) -> u8
     requires seen { IsSeen planned.now.seen.shown.sector planned.now.seen }
-    requires len { IfSome (history_told (D.first disk.old) (D.calls disk.old)) (λ h. length (shown h) ≡ 512 * planned.now.seen.sectors) }
+    requires len { IfSome (history_told (D.first disk.old) (D.calls disk.old)) (λ h. length (held h) ≡ 512 * planned.now.seen.sectors) }
     ensures { ChecksPlanned arch
         (device D.first D.calls D.faults D.strays disk.old) (device D.first D.calls D.faults D.strays disk.new)
         (output K.told K.faults out.old) (output K.told K.faults out.new) result (Ok planned.now) }

@@ -9,7 +9,7 @@ use Rattle.rp_apply_command.specs.Ends.Ends.{before, behind, broken, between}
 use Rattle.rp_base.specs.Geometry.{IsSector}
 use Rattle.rp_cli.specs.Applied.{AppliesAsked, IsApplied, IsDone, IsRefusedBefore, IsSafeThroughout, WritesNothingIdle}
 use Rattle.rp_defs.specs.declared.definition.Definitions.{Definitions}
-use Rattle.rp_disk.specs.History.{shown}
+use Rattle.rp_disk.specs.History.{held}
 use Rattle.rp_disk.specs.Made.{history_of}
 use Rattle.rp_disk.specs.Runs.{MadeFirst}
 use Rattle.rp_disk.specs.declared.call.Call.{Call}
@@ -81,14 +81,14 @@ module _ (request : Request) (json : Bool) (dirs : List (List ℕ)) (folders rea
     -- the plan that was carried out is the goal
     of_goal : (definitions : Definitions) (planned : Planned) (body : List Call) (o : Option (List ℕ))
         → IfSome o (StopsSafely request definitions.list disk later planned body)
-        → IfSome o (λ bytes. IsGoalOf request definitions.list (shown (history_of bytes disk.calls)) planned)
+        → IfSome o (λ bytes. IsGoalOf request definitions.list (held (history_of bytes disk.calls)) planned)
     of_goal definitions planned body None stops = tt
     of_goal definitions planned body (Some bytes) stops = stops.goal
 
     -- and by what the sources tell
     of_exact : (definitions : Definitions) (planned : Planned) (calls : List Call) (o : Option (List ℕ)) (s : Option (List Stored))
         → IfSome o (λ bytes. IfSome s (StopsExactly request definitions.list disk later planned calls bytes))
-        → IfSome o (λ bytes. IfSome s (λ files. planned_of request definitions.list (shown (history_of bytes disk.calls)) files ≡ Ok planned))
+        → IfSome o (λ bytes. IfSome s (λ files. planned_of request definitions.list (held (history_of bytes disk.calls)) files ≡ Ok planned))
     of_exact definitions planned calls None s stops = tt
     of_exact definitions planned calls (Some bytes) None stops = tt
     of_exact definitions planned calls (Some bytes) (Some files) stops = stops.goal
@@ -136,8 +136,8 @@ module _ (request : Request) (json : Bool) (dirs : List (List ℕ)) (folders rea
         by_asked bytes first tree told definitions are idle long asked)) where
           by_asked : (bytes : List ℕ) → disk.first ≡ Some bytes → (tree : Tree) → folders.told ≡ Some tree → (definitions : Definitions)
               → definitions_in request.arch tree dirs ≡ Ok definitions
-              → IsIdle request.sector (shown (history_of bytes disk.calls)) definitions.list request.seed
-              → request.size ≤ length (shown (history_of bytes disk.calls)) → Asked → MadeFirst disk.calls (Sync ∷ []) later.calls
+              → IsIdle request.sector (held (history_of bytes disk.calls)) definitions.list request.seed
+              → request.size ≤ length (held (history_of bytes disk.calls)) → Asked → MadeFirst disk.calls (Sync ∷ []) later.calls
           by_asked bytes first tree told definitions are idle long (inr (same, refuses)) = (unasked same.1).made
           by_asked bytes first tree told definitions are idle long (inl applies) =
               ends_idle request json dirs folders read disk later sources drained out after status sector size.whole size.most applies

@@ -4,7 +4,7 @@ use Rattle.rp_apply_command.specs.Applies.{Applies}
 use Rattle.rp_apply_command.specs.Ends.{AreRead, AtTheEnd, CarriesSome, Given, IsGoalOf, LeavesAll}
 use Rattle.rp_cli.specs.Asked.{AreUnasked}
 use Rattle.rp_defs.specs.declared.definition.Definitions.{Definitions}
-use Rattle.rp_disk.specs.History.{shown}
+use Rattle.rp_disk.specs.History.{held}
 use Rattle.rp_disk.specs.Made.{history_of}
 use Rattle.rp_disk.specs.Runs.{MadeFirst}
 use Rattle.rp_disk.specs.declared.call.Call.{Call}
@@ -40,14 +40,14 @@ pub record IsApplied (request : Request) (dirs : List (List ℕ)) (folders : Sto
   pub definitions : Definitions
   pub planned : Planned
   pub read : AreRead request dirs folders definitions
-  pub goal : IfSome disk.first (λ bytes. IsGoalOf request definitions.list (shown (history_of bytes disk.calls)) planned)
+  pub goal : IfSome disk.first (λ bytes. IsGoalOf request definitions.list (held (history_of bytes disk.calls)) planned)
   pub exact_goal : IfSome disk.first (λ bytes. IfSome sources.told (λ files.
-      planned_of request definitions.list (shown (history_of bytes disk.calls)) files ≡ Ok planned))
+      planned_of request definitions.list (held (history_of bytes disk.calls)) files ≡ Ok planned))
   pub shows_goal : IfSome disk.first (λ bytes. AtTheEnd bytes later
-      (HasGoal request.sector (shown (history_of bytes disk.calls)) planned.seen definitions.list request.seed planned.plan))
+      (HasGoal request.sector (held (history_of bytes disk.calls)) planned.seen definitions.list request.seed planned.plan))
   pub holds_contents : IfSome disk.first (λ bytes. IfSome sources.told (λ files. AtTheEnd bytes later
-      (IsDoneWith request.sector (shown (history_of bytes disk.calls)) planned.seen definitions.list request.seed planned.plan
-      (contents planned.plan (Given definitions.list files) (grown (shown (history_of bytes disk.calls)) planned.plan)))))
+      (IsDoneWith request.sector (held (history_of bytes disk.calls)) planned.seen definitions.list request.seed planned.plan
+      (contents planned.plan (Given definitions.list files) (grown (held (history_of bytes disk.calls)) planned.plan)))))
 
 -- the status of a run that is done, though its text may be cut
 abbrev pub IsDone : ℕ → Type 0
@@ -70,5 +70,5 @@ IsRefusedBefore status = (status ≡ exit.definitions) ⊎ (status ≡ exit.imag
 abbrev pub WritesNothingIdle : Request → List (List ℕ) → Store Tree → Device → Device → Type 0
 WritesNothingIdle request dirs folders disk later =
     IfSome disk.first (λ bytes. IfSome folders.told (λ tree. (definitions : Definitions) → definitions_in request.arch tree dirs ≡ Ok definitions
-    → IsIdle request.sector (shown (history_of bytes disk.calls)) definitions.list request.seed
-    → request.size ≤ length (shown (history_of bytes disk.calls)) → MadeFirst disk.calls (Sync ∷ []) later.calls))
+    → IsIdle request.sector (held (history_of bytes disk.calls)) definitions.list request.seed
+    → request.size ≤ length (held (history_of bytes disk.calls)) → MadeFirst disk.calls (Sync ∷ []) later.calls))

@@ -5,7 +5,7 @@ use Rattle.std.proofs.lemmas.Bool.{le-ltb}
 use Rattle.std.specs.Prelude.{IfSome, Option, Some, None, nat_lt}
 use Rattle.rp_base.specs.Faults.{CountsStray}
 use Rattle.rp_base.specs.Geometry.{IsSector, array_sectors, copy_bytes}
-use Rattle.rp_disk.specs.History.{shown}
+use Rattle.rp_disk.specs.History.{held}
 use Rattle.rp_disk.specs.Made.{Made, history_told}
 
 -- zeros for one sector
@@ -24,7 +24,7 @@ array_size sector entries size (inr is) all = rw is (let a : size + 4096 ≡ 409
 
 -- a call that ends within a disk isn't stray
 pub stray_in : (first : Option (List ℕ)) (calls : List Made) (end n old new : ℕ) → end ≤ n
-    → IfSome (history_told first calls) (λ h. CountsStray (nat_lt (length (shown h)) end) old new)
-    → IfSome (history_told first calls) (λ h. n ≤ length (shown h) → new ≡ old)
+    → IfSome (history_told first calls) (λ h. CountsStray (nat_lt (length (held h)) end) old new)
+    → IfSome (history_told first calls) (λ h. n ≤ length (held h) → new ≡ old)
 stray_in None calls end n old new within counts = tt
 stray_in (Some bytes) calls end n old new within counts = λ reaches. counts.kept (le-ltb _ _ (omega arith))

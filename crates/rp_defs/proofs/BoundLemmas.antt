@@ -21,9 +21,9 @@ use Rattle.rp_defs.specs.Keys.{key_named}
 use Rattle.rp_defs.specs.Faults.{no_memory, whole_fault, IsFault}
 use Rattle.rp_defs.specs.Drafts.{draft_from, half_said, within_limits, want_of}
 use Rattle.rp_defs.specs.Limits.{has_no_size, max_of, min_of}
-use Rattle.rp_defs.specs.Value.{id_of, label_of, size_of as size_of_value, weight_of as weight_of_value, value_in, label_in, size_in}
+use Rattle.rp_defs.specs.Value.{id_of, as_label, size_of as size_of_value, weight_of as weight_of_value, value_in, label_in, size_in}
 use Rattle.rp_defs.specs.Value.{weight_in, IsBounded}
-use Rattle.rp_defs.specs.WellFormed.{IsSizedHalf, IsSoundDraft}
+use Rattle.rp_defs.specs.SoundDraft.{IsSizedHalf, IsSoundDraft}
 
 -- a number that is set is at most so much
 abbrev pub IsUpTo : ℕ → Option ℕ → Type 0
@@ -84,7 +84,7 @@ size_bounded (Some (value.Half half)) h = tt
 size_bounded (Some (value.Switch on)) h = tt
 size_bounded (Some (value.Text text)) h = tt
 
-label_bounded : (value : Option Value) → IfSome value IsBounded → IfSome (option_and_then label_of value) (λ units. slice_index units 0 ≢ 0)
+label_bounded : (value : Option Value) → IfSome value IsBounded → IfSome (option_and_then as_label value) (λ units. slice_index units 0 ≢ 0)
 label_bounded None h = tt
 label_bounded (Some (value.Id id)) h = tt
 label_bounded (Some (value.Label units)) h = h

@@ -23,7 +23,8 @@ use Rattle.rp_defs.specs.declared.fault.DefFault.{DefFault}
 use Rattle.rp_defs.specs.Faults.{no_memory}
 use Rattle.rp_defs.specs.Pairs.{paired, definition_of, is_half, is_joined, is_pair, same_half, shared_priority}
 use Rattle.rp_defs.specs.Partner.{greater}
-use Rattle.rp_defs.specs.WellFormed.{IsSized, IsSound, IsSoundDraft, IsPair, HasPartner, IsWellFormed}
+use Rattle.rp_defs.specs.SoundDraft.{IsSoundDraft}
+use Rattle.rp_defs.specs.WellFormed.{IsSized, IsSound, IsPair, HasPartner, IsWellFormed}
 use Rattle.rp_defs.proofs.Counted.{only_place, place_there, each_passes}
 use Rattle.rp_defs.proofs.PairLemmas.{is_unjoined, paired_ok}
 

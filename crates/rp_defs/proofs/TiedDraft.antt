@@ -27,7 +27,7 @@ use Rattle.rp_defs.specs.Said.{Half, Off, Data, Hash, Said, kind_said, id_said, 
 use Rattle.rp_defs.specs.Said.{switch_said, path_said, half_said, match_said, split_said, refused_said, off_said}
 use Rattle.rp_defs.specs.Settings.{Placed, counting}
 use Rattle.rp_defs.specs.Stated.{Stated, says, said_of, required, stated_by, within_limits, want_said, attrs_said}
-use Rattle.rp_defs.specs.Value.{id_in, label_in, priority_in, weight_in, size_in, switch_in, text_in, id_of, label_of, priority_of}
+use Rattle.rp_defs.specs.Value.{id_in, label_in, priority_in, weight_in, size_in, switch_in, text_in, id_of, as_label, priority_of}
 use Rattle.rp_defs.specs.Value.{weight_of, size_of, half_of, switch_of, text_of}
 use Rattle.rp_defs.specs.Values.{kept_as, read_at, half_kept, value_at, values_of, value_of, type_of, read_set}
 use Rattle.rp_defs.proofs.TiedValues.{setting_kept, keyed_kept, counting_kept, read_kept, said_back}
@@ -319,7 +319,7 @@ module _ (arch : Arch) (file : List ℕ) (all : List Placed) where
       next draft_kept (key 25) _ value.Text (keys_from 26 0) _ _ told_25 (λ split.
       ended kind _ label id priority weight pad_weight low high pad_low pad_high source half match_key hidden fixed grows factory_reset
       split
-      (said_back value.Label label_of (λ x. refl) label)
+      (said_back value.Label as_label (λ x. refl) label)
       (said_back value.Id id_of (λ x. refl) id)
       (said_back value.Priority priority_of (λ x. refl) priority)
       (said_back value.Weight weight_of (λ x. refl) weight)

@@ -15,6 +15,7 @@ pub mod Readers
 pub mod Records
 pub mod Said
 pub mod Settings
+pub mod SoundDraft
 pub mod Stated
 pub mod Value
 pub mod Values

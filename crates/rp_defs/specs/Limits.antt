@@ -3,9 +3,9 @@ use Rattle.std.specs.Prelude.{ℕ, ◌+◌, ◌/◌, ◌^◌, Bool, ◌||◌, na
 use Rattle.std.specs.Option.{option_map_or}
 use Rattle.rp_base.specs.declared.want.Want.{Want}
 
--- bytes in grains of 4,096, rounded up and down
-abbrev pub grains_up : ℕ → ℕ
-grains_up bytes = (bytes + 4095) / 4096
+-- the grains of 4,096 bytes that so many bytes need, and those that they fill
+abbrev pub grains_for : ℕ → ℕ
+grains_for bytes = (bytes + 4095) / 4096
 
 abbrev pub grains_down : ℕ → ℕ
 grains_down bytes = bytes / 4096
@@ -15,7 +15,7 @@ abbrev pub max_of : Option ℕ → ℕ
 max_of set = option_map_or grains_down set (2 ^ 52)
 
 abbrev pub min_of : Option ℕ → ℕ → ℕ
-min_of set unset = option_map_or grains_up set unset
+min_of set unset = option_map_or grains_for set unset
 
 -- a minimum, of the size or of the padding, is above its maximum
 abbrev pub has_no_size : Want → Bool

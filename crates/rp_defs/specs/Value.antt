@@ -16,9 +16,9 @@ abbrev pub id_of : Value → Option Guid
 id_of (value.Id id) = Some id
 id_of other = None
 
-abbrev pub label_of : Value → Option (List ℕ)
-label_of (value.Label units) = Some units
-label_of other = None
+abbrev pub as_label : Value → Option (List ℕ)
+as_label (value.Label units) = Some units
+as_label other = None
 
 abbrev pub priority_of : Value → Option ℤ
 priority_of (value.Priority priority) = Some priority
@@ -49,7 +49,7 @@ abbrev pub id_in : List (Option Value) → List ℕ → Option Guid
 id_in values name = option_and_then id_of (value_in values name)
 
 abbrev pub label_in : List (Option Value) → List ℕ → Option (List ℕ)
-label_in values name = option_and_then label_of (value_in values name)
+label_in values name = option_and_then as_label (value_in values name)
 
 abbrev pub priority_in : List (Option Value) → List ℕ → Option ℤ
 priority_in values name = option_and_then priority_of (value_in values name)

@@ -4,9 +4,6 @@ use Rattle.rp_base.specs.Wants.{IsWant}
 use Rattle.rp_defs.specs.declared.definition.Definition.{Definition}
 use Rattle.rp_defs.specs.declared.definition.Verity.{Verity}
 use Rattle.rp_defs.specs.declared.definition.Verity.TheVariants.{Off, Data, Hash}
-use Rattle.rp_defs.specs.declared.draft.Draft.{Draft}
-use Rattle.rp_defs.specs.declared.draft.Half.{Half}
-use Rattle.rp_defs.specs.declared.draft.Half.TheVariants as halves
 
 -- by half: without verity a grain at least is asked for, and half of a pair has no weight
 abbrev pub IsSized : Verity → Definition → Type 0
@@ -42,16 +39,3 @@ pub record IsWellFormed (list : List Definition) : Type 0 where
   pub each : All IsSound list
   pub partners : (place : ℕ) (definition : Definition) → slice_get list place ≡ Some definition
       → HasPartner list place definition definition.verity
-
--- by half: the same of a draft
-abbrev pub IsSizedHalf : Half → Definition → Type 0
-IsSizedHalf halves.Off definition = 1 ≤ definition.want.min
-IsSizedHalf half definition = definition.want.weight ≡ 0
-
--- a draft whose definition is sound once its partner is known
-pub record IsSoundDraft (draft : Draft) : Type 0 where
-  pub used : draft.definition.kind.0 ≢ replicate 16 0
-  pub want : IsWant draft.definition.want
-  pub label : IfSome draft.definition.label (λ units. slice_index units 0 ≢ 0)
-  pub sized : IsSizedHalf draft.half draft.definition
-  pub alone : draft.definition.verity ≡ Off

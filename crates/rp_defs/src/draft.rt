@@ -5,7 +5,7 @@ ghost use Rattle.rp_defs.specs.Drafts.{draft_from, draft_of, half_said, priority
 ghost use Rattle.rp_defs.specs.Limits.{has_no_size};
 ghost use Rattle.rp_defs.specs.Kept.{IsSet};
 ghost use Rattle.rp_defs.specs.Value.{IsBounded};
-ghost use Rattle.rp_defs.specs.WellFormed.{IsSoundDraft};
+ghost use Rattle.rp_defs.specs.SoundDraft.{IsSoundDraft};
 
 use crate::attrs::attrs_of;
 use crate::keys::Key;

@@ -5,7 +5,8 @@ ghost use Rattle.rp_defs.specs.Faults.{no_memory, IsFault, IsSoundFault};
 ghost use Rattle.rp_defs.specs.Joints.{joint_of, pair_fault};
 ghost use Rattle.rp_defs.specs.Pairs.{paired, definition_of, has_pair, is_half, is_joined, is_pair, place_of, shared_priority};
 ghost use Rattle.rp_defs.specs.Partner.{greater, with_partner};
-ghost use Rattle.rp_defs.specs.WellFormed.{IsSoundDraft, IsWellFormed};
+ghost use Rattle.rp_defs.specs.SoundDraft.{IsSoundDraft};
+ghost use Rattle.rp_defs.specs.WellFormed.{IsWellFormed};
 
 use crate::draft::{Draft, Half};
 use crate::{DefFault, DefKind, Definition, Verity};

@@ -7,7 +7,8 @@ ghost use Rattle.rp_defs.specs.Drafting.{drafts_of, with_group, is_part};
 ghost use Rattle.rp_defs.specs.Faults.{no_memory, IsKnown, IsSoundFault};
 ghost use Rattle.rp_defs.specs.declared.fault.DefKind.TheVariants.{Memory as want_of_memory};
 ghost use Rattle.rp_defs.specs.Records.{records};
-ghost use Rattle.rp_defs.specs.WellFormed.{IsSoundDraft, IsWellFormed};
+ghost use Rattle.rp_defs.specs.SoundDraft.{IsSoundDraft};
+ghost use Rattle.rp_defs.specs.WellFormed.{IsWellFormed};
 
 use crate::draft::{Drafts, draft_of};
 use crate::pairs::paired;

@@ -31,7 +31,7 @@ impl Value {
     }
 
     fn label(&self) -> Option<[u16; 36]>
-        ensures { result ≡ said.label_of self.now }
+        ensures { result ≡ said.as_label self.now }
     {
         match self {
             Value::Label(units) => Some(*units),
@@ -108,7 +108,7 @@ pub(crate) fn id_in(values: &[Option<Value>], key: Key) -> Option<Guid>
 }
 
 pub(crate) fn label_in(values: &[Option<Value>], key: Key) -> Option<[u16; 36]>
-    ensures { result ≡ option_and_then said.label_of (slice_index_or values.now (number_of key) None) }
+    ensures { result ≡ option_and_then said.as_label (slice_index_or values.now (number_of key) None) }
 {
     value_in(values, key)?.label()
 }

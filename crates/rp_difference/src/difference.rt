@@ -1,6 +1,6 @@
 ghost use Rattle.std.specs.Prelude.{◌≡◌, ◌≤◌, ◌*◌, IfSome, IfOk, length};
 ghost use Rattle.rp_base.specs.Faults.{HasCause};
-ghost use Rattle.rp_disk.specs.History.{shown};
+ghost use Rattle.rp_disk.specs.History.{held};
 ghost use Rattle.rp_disk.specs.Made.{history_told};
 ghost use Rattle.rp_difference.specs.Difference.{difference};
 ghost use Rattle.rp_gpt.specs.Accepted.{IsSeen};
@@ -45,10 +45,10 @@ pub fn difference_of<D: Disk>(
     requires room { 24576 ≤ length room.old }
     ensures first { D.first disk.new ≡ D.first disk.old }
     ensures calls { D.calls disk.new ≡ D.calls disk.old }
-    ensures strays { IfSome (history_told (D.first disk.old) (D.calls disk.old)) (λ h. 512 * seen.now.sectors ≤ length (shown h)
+    ensures strays { IfSome (history_told (D.first disk.old) (D.calls disk.old)) (λ h. 512 * seen.now.sectors ≤ length (held h)
         → D.strays disk.new ≡ D.strays disk.old) }
     ensures answer { IfSome (history_told (D.first disk.old) (D.calls disk.old)) (λ h.
-        IfOk result (λ found. found ≡ difference (shown h) arch seen.now plan.now)) }
+        IfOk result (λ found. found ≡ difference (held h) arch seen.now plan.now)) }
     ensures cause { HasCause (D.faults disk.old) (D.faults disk.new) result }
 {
     if let Some(found) = table_difference(seen, plan) {

@@ -3,7 +3,7 @@
 ghost use Rattle.std.specs.Prelude.{◌≡◌, ◌+◌, ◌*◌, ◌≤◌, ◌^◌, IfSome, IfOk, length};
 ghost use Rattle.std.specs.Option.{option_or};
 ghost use Rattle.rp_difference.specs.Difference.{bad_of as bad_of_pair, tree_difference as tree_difference_of};
-ghost use Rattle.rp_disk.specs.History.{shown};
+ghost use Rattle.rp_disk.specs.History.{held};
 ghost use Rattle.rp_disk.specs.Made.{history_told};
 ghost use Rattle.rp_gpt.specs.Accepted.{IsSeen};
 ghost use Rattle.rp_tree.specs.Reads.{Reads, ends_of};
@@ -29,8 +29,8 @@ pub(crate) fn trees_difference<D: Disk>(
     requires room { 24576 ≤ length room.old }
     ensures reads { Reads (512 * seen.now.sectors) (D.first disk.old) (D.first disk.new) (D.calls disk.old) (D.calls disk.new) (D.strays disk.old) (D.strays disk.new) (D.faults disk.old) (D.faults disk.new) result }
     ensures found { IfSome (history_told (D.first disk.old) (D.calls disk.old)) (λ h. IfOk result (λ found.
-        found ≡ option_or (tree_difference_of (shown h) arch seen.now.shown.rows Designator.Root)
-        (tree_difference_of (shown h) arch seen.now.shown.rows Designator.Usr))) }
+        found ≡ option_or (tree_difference_of (held h) arch seen.now.shown.rows Designator.Root)
+        (tree_difference_of (held h) arch seen.now.shown.rows Designator.Usr))) }
 {
     if let Some(found) = tree_difference(disk, arch, seen, Designator::Root, room)? {
         return Ok(Some(found));
@@ -50,7 +50,7 @@ fn tree_difference<D: Disk>(
     requires room { 24576 ≤ length room.old }
     ensures reads { Reads (512 * seen.now.sectors) (D.first disk.old) (D.first disk.new) (D.calls disk.old) (D.calls disk.new) (D.strays disk.old) (D.strays disk.new) (D.faults disk.old) (D.faults disk.new) result }
     ensures found { IfSome (history_told (D.first disk.old) (D.calls disk.old)) (λ h. IfOk result (λ found.
-        found ≡ tree_difference_of (shown h) arch seen.now.shown.rows designator)) }
+        found ≡ tree_difference_of (held h) arch seen.now.shown.rows designator)) }
 {
     let rows = seen.shown.rows.as_slice();
     let Some(payload) = row_of(rows, arch, designator) else {
@@ -76,7 +76,7 @@ fn bad_of<D: Disk>(
     requires hash { hash.now.start + hash.now.size ≤ 2 ^ 35 }
     requires room { 24576 ≤ length room.old }
     ensures reads { Reads (ends_of payload.now hash.now) (D.first disk.old) (D.first disk.new) (D.calls disk.old) (D.calls disk.new) (D.strays disk.old) (D.strays disk.new) (D.faults disk.old) (D.faults disk.new) result }
-    ensures bad { IfSome (history_told (D.first disk.old) (D.calls disk.old)) (λ h. IfOk result (λ bad. bad ≡ bad_of_pair (shown h) payload.now hash.now)) }
+    ensures bad { IfSome (history_told (D.first disk.old) (D.calls disk.old)) (λ h. IfOk result (λ bad. bad ≡ bad_of_pair (held h) payload.now hash.now)) }
 {
     if payload.size < BLOCK_UNITS || hash.size < BLOCK_UNITS {
         return Ok(None);

@@ -6,7 +6,7 @@ use Rattle.rp_disk.specs.declared.call.Call.{Call}
 use Rattle.rp_disk.specs.declared.call.Call.TheVariants.{Write, Sync, SetLen}
 use Rattle.rp_disk.specs.Calls.{overwritten, resized, done, IsWithin}
 use Rattle.rp_disk.specs.Stops.{Each, SetsLength, EndsBefore, Spares, Agrees}
-use Rattle.rp_disk.specs.History.{History, Start, Did, Failed, shown, settled_bytes, pending_calls, MayLeave, IsLawful}
+use Rattle.rp_disk.specs.History.{History, Start, Did, Failed, held, settled_bytes, pending_calls, MayLeave, IsLawful}
 
 -- lists of calls
 
@@ -137,18 +137,18 @@ agrees-done image (SetLen len) inside = record {
 }
 
 -- what a lawful disk shows is among what a stop now may leave
-pub shown_left : (history : History) → IsLawful history → MayLeave history (shown history)
+pub shown_left : (history : History) → IsLawful history → MayLeave history (held history)
 shown_left (Start bytes) lawful = agrees-same bytes []
 shown_left (Did before (Write at bytes)) lawful =
-    agrees-then (settled_bytes before) (shown before) (done (shown before) (Write at bytes)) (pending_calls before) (Write at bytes ∷ [])
-    (shown_left before lawful.0) (agrees-done (shown before) (Write at bytes) lawful.1)
-shown_left (Did before Sync) lawful = agrees-same (shown before) []
+    agrees-then (settled_bytes before) (held before) (done (held before) (Write at bytes)) (pending_calls before) (Write at bytes ∷ [])
+    (shown_left before lawful.0) (agrees-done (held before) (Write at bytes) lawful.1)
+shown_left (Did before Sync) lawful = agrees-same (held before) []
 shown_left (Did before (SetLen len)) lawful =
-    agrees-then (settled_bytes before) (shown before) (done (shown before) (SetLen len)) (pending_calls before) (SetLen len ∷ [])
-    (shown_left before lawful.0) (agrees-done (shown before) (SetLen len) lawful.1)
+    agrees-then (settled_bytes before) (held before) (done (held before) (SetLen len)) (pending_calls before) (SetLen len ∷ [])
+    (shown_left before lawful.0) (agrees-done (held before) (SetLen len) lawful.1)
 shown_left (Failed before (Write at bytes) after) lawful =
-    agrees-then (settled_bytes before) (shown before) after (pending_calls before) (Write at bytes ∷ []) (shown_left before lawful.0) lawful.1
+    agrees-then (settled_bytes before) (held before) after (pending_calls before) (Write at bytes ∷ []) (shown_left before lawful.0) lawful.1
 shown_left (Failed before Sync after) lawful =
-    subst (MayLeave before) (sym (agrees-sync (shown before) after lawful.1)) (shown_left before lawful.0)
+    subst (MayLeave before) (sym (agrees-sync (held before) after lawful.1)) (shown_left before lawful.0)
 shown_left (Failed before (SetLen len) after) lawful =
-    agrees-then (settled_bytes before) (shown before) after (pending_calls before) (SetLen len ∷ []) (shown_left before lawful.0) lawful.1
+    agrees-then (settled_bytes before) (held before) after (pending_calls before) (SetLen len ∷ []) (shown_left before lawful.0) lawful.1

@@ -2,7 +2,7 @@
 use Rattle.std.proofs.Common.{◌≡◌, ℕ, ◌<◌, List, [], ◌∷◌, ◌++◌, Bool, true, false, map, length, refl, sym, ◌∙◌, ap, arith}
 use Rattle.rp_disk.specs.declared.call.Call.{Call}
 use Rattle.rp_disk.specs.Calls.{done}
-use Rattle.rp_disk.specs.History.{History, Start, Did, Failed, shown}
+use Rattle.rp_disk.specs.History.{History, Start, Did, Failed, held}
 use Rattle.rp_disk.specs.Made.{Done, Broke, asked, history_of}
 use Rattle.rp_disk.specs.Kept.{answered, noted, all_answered, first_kept}
 use Rattle.rp_disk.specs.KeptLawful.{replayed, kept, after-answered, history-kept}
@@ -25,14 +25,14 @@ kept-more image first then_first after (c ∷ calls) oks call ok same at_first l
     ∙ ap (λ b. noted (replayed (Start b) (c ∷ calls) oks) call ok) (later (omega arith))
 
 answered-more : (history : History) (calls : List Call) (oks : List Bool) (call : Call) (ok : Bool) → length calls ≡ length oks
-    → all_answered (shown history) (calls ++ call ∷ []) (oks ++ ok ∷ []) ≡ all_answered (shown history) calls oks ++ answered (shown (replayed history calls oks)) call ok ∷ []
+    → all_answered (held history) (calls ++ call ∷ []) (oks ++ ok ∷ []) ≡ all_answered (held history) calls oks ++ answered (held (replayed history calls oks)) call ok ∷ []
 answered-more history [] [] call ok same = refl
 answered-more history [] (o ∷ oks) call ok same = absurd (omega (arith, same))
 answered-more history (c ∷ calls) [] call ok same = absurd (omega (arith, same))
 answered-more history (c ∷ calls) (true ∷ oks) call ok same =
     ap (λ l. Done c ∷ l) (answered-more (Did history c) calls oks call ok (omega (arith, same)))
 answered-more history (c ∷ calls) (false ∷ oks) call ok same =
-    ap (λ l. Broke c (shown history) ∷ l) (answered-more (Failed history c (shown history)) calls oks call ok (omega (arith, same)))
+    ap (λ l. Broke c (held history) ∷ l) (answered-more (Failed history c (held history)) calls oks call ok (omega (arith, same)))
 
 module _ (image first then_first : List ℕ) (calls : List Call) (oks : List Bool) (call : Call) (ok : Bool) (same : length calls ≡ length oks)
     (at_first : calls ≡ [] → then_first ≡ image) (later : 0 < length calls → then_first ≡ first) where
@@ -54,13 +54,13 @@ pub calls-more : (image first then_first : List ℕ) (calls : List Call) (oks : 
     → length calls ≡ length oks
     → (calls ≡ [] → then_first ≡ image) → (0 < length calls → then_first ≡ first)
     → all_answered then_first (calls ++ call ∷ []) (oks ++ ok ∷ [])
-    ≡ all_answered first calls oks ++ answered (shown (history_of (first_kept image first calls) (all_answered first calls oks))) call ok ∷ []
+    ≡ all_answered first calls oks ++ answered (held (history_of (first_kept image first calls) (all_answered first calls oks))) call ok ∷ []
 calls-more image first then_first [] [] call ok same at_first later = ap (λ b. answered b call ok ∷ []) (at_first refl)
 calls-more image first then_first [] (o ∷ oks) call ok same at_first later = absurd (omega (arith, same))
 calls-more image first then_first (c ∷ calls) oks call ok same at_first later =
     ap (λ b. all_answered b (c ∷ (calls ++ call ∷ [])) (oks ++ ok ∷ [])) (later (omega arith))
     ∙ answered-more (Start first) (c ∷ calls) oks call ok same
-    ∙ ap (λ h. all_answered first (c ∷ calls) oks ++ answered (shown h) call ok ∷ []) (sym (after-answered (Start first) (c ∷ calls) oks))
+    ∙ ap (λ h. all_answered first (c ∷ calls) oks ++ answered (held h) call ok ∷ []) (sym (after-answered (Start first) (c ∷ calls) oks))
 
 -- the first bytes while nothing was noted
 pub first-same : (image first then_first : List ℕ) (calls : List Call) → (0 < length calls → then_first ≡ first)

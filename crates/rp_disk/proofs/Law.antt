@@ -5,13 +5,13 @@ use Rattle.rp_disk.specs.declared.call.Call.{Call}
 use Rattle.rp_disk.specs.declared.call.Call.TheVariants.{Write, Sync, SetLen}
 use Rattle.rp_disk.specs.Calls.{done, all_done, is_sync, settled, pending}
 use Rattle.rp_disk.specs.Stops.{Agrees, Leaves, IsFrontOf}
-use Rattle.rp_disk.specs.History.{History, Start, Did, Failed, shown, moment, settled_bytes, pending_calls, and_failed, made_since, MayLeave, LeftNow, LeftSince, IsSettled, all_did}
+use Rattle.rp_disk.specs.History.{History, Start, Did, Failed, held, moment, settled_bytes, pending_calls, and_failed, made_since, MayLeave, LeftNow, LeftSince, IsSettled, all_did}
 use Rattle.rp_disk.specs.Runs.{Went}
 use Rattle.rp_disk.proofs.Agreeing.{agrees-none}
 use Rattle.rp_disk.proofs.Pushing.{all_done-more, settled-sync, settled-other, pending-sync, pending-other}
 
 -- where nothing is pending a stop leaves the bytes shown and nothing else
-pub settled_leaves : (history : History) (image : List ℕ) → IsSettled history → MayLeave history image → image ≡ shown history
+pub settled_leaves : (history : History) (image : List ℕ) → IsSettled history → MayLeave history image → image ≡ held history
 settled_leaves history image settled may =
     agrees-none (settled_bytes history) image (subst (λ (l : List Call). Agrees (settled_bytes history) l image) settled.calls may)
     ∙ settled.bytes
@@ -60,12 +60,12 @@ front_failed calls (SetLen len) = (SetLen len ∷ [], refl)
 
 -- what is settled and what is pending of a history, by the calls that were made from a start on
 record Stands (start : History) (made : List Call) (base : List ℕ) (open_calls : List Call) : Type 0 where
-  base_is : base ≡ settled (shown start) made
+  base_is : base ≡ settled (held start) made
   calls_are : open_calls ≡ pending made
 
 stands_leaves : (start : History) (made : List Call) (base : List ℕ) (open_calls : List Call) (image : List ℕ)
     → Stands start made base open_calls
-    → Agrees base open_calls image → Leaves (shown start) made image
+    → Agrees base open_calls image → Leaves (held start) made image
 stands_leaves start made base open_calls image stands agrees =
     let P : List ℕ → Type 0 = λ b. Agrees b (pending made) image in
     subst P stands.base_is (subst (λ (l : List Call). Agrees base l image) stands.calls_are agrees)
@@ -75,25 +75,25 @@ stands_other : (start : History) (made : List Call) (base : List ℕ) (open_call
     → Stands start made base open_calls
     → Stands start (made ++ call ∷ []) base (open_calls ++ call ∷ [])
 stands_other start made base open_calls call isnt stands = record {
-  base_is = stands.base_is ∙ sym (settled-other (shown start) made call isnt);
+  base_is = stands.base_is ∙ sym (settled-other (held start) made call isnt);
   calls_are = ap (λ l. l ++ call ∷ []) stands.calls_are ∙ sym (pending-other made call isnt);
 }
 
 -- what is known of a disk that had nothing pending at a start, and then made these calls, which all answered Ok
 record Ran (start now : History) (made : List Call) : Type 0 where
   begun : moment start ≤ moment now
-  shows : shown now ≡ all_done (shown start) made
+  shows : held now ≡ all_done (held start) made
   stands : Stands start made (settled_bytes now) (pending_calls now)
   since : made_since now (moment start) ≡ made
   any_moment : (front : List Call) (image : List ℕ) → LeftSince now (moment start) front image
-      → IsFrontOf front made × Leaves (shown start) front image
+      → IsFrontOf front made × Leaves (held start) front image
 
 -- what a stop now may leave is said of the calls since then
 at_now : (start now : History) (made front : List Call) (image : List ℕ) → Stands start made (settled_bytes now) (pending_calls now)
     → made_since now (moment start) ≡ made
-    → LeftNow now (moment start) front image → IsFrontOf front made × Leaves (shown start) front image
+    → LeftNow now (moment start) front image → IsFrontOf front made × Leaves (held start) front image
 at_now start now made front image stands since left =
-    let P : List Call → Type 0 = λ f. IsFrontOf f made × Leaves (shown start) f image in
+    let P : List Call → Type 0 = λ f. IsFrontOf f made × Leaves (held start) f image in
     subst P (sym (left.0 ∙ since)) (front_whole made, stands_leaves start made (settled_bytes now) (pending_calls now) image stands left.1)
 
 started : (start : History) → IsSettled start → Ran start start []
@@ -112,7 +112,7 @@ stands_did : (start now : History) (made : List Call) (call : Call) → Ran star
 stands_did start now made (Write at bytes) ran =
     stands_other start made (settled_bytes now) (pending_calls now) (Write at bytes) refl ran.stands
 stands_did start now made Sync ran =
-    record { base_is = ran.shows ∙ sym (settled-sync (shown start) made); calls_are = sym (pending-sync made) }
+    record { base_is = ran.shows ∙ sym (settled-sync (held start) made); calls_are = sym (pending-sync made) }
 stands_did start now made (SetLen len) ran = stands_other start made (settled_bytes now) (pending_calls now) (SetLen len) refl ran.stands
 
 goes_on : (start now : History) (made : List Call) (call : Call) → Ran start now made → Ran start (Did now call) (made ++ call ∷ [])
@@ -123,7 +123,7 @@ goes_on start now made call ran =
     ∙ ap (λ l. l ++ call ∷ []) ran.since in
     record {
       begun = omega (arith, ran.begun);
-      shows = ap (λ s. done s call) ran.shows ∙ sym (all_done-more (shown start) made call);
+      shows = ap (λ s. done s call) ran.shows ∙ sym (all_done-more (held start) made call);
       stands = stands;
       since = since;
       any_moment = λ front image left. ⊎_elim
@@ -152,7 +152,7 @@ stands_failed start now made (SetLen len) ran =
 call_failed : (start now : History) (made : List Call) (call : Call) (after : List ℕ) → Ran start now made
     → (front : List Call) (image : List ℕ)
     → LeftSince (Failed now call after) (moment start) front image
-    → IsFrontOf front (and_failed made call) × Leaves (shown start) front image
+    → IsFrontOf front (and_failed made call) × Leaves (held start) front image
 call_failed start now made call after ran front image (inl at) =
     at_now start (Failed now call after) (and_failed made call) front image (stands_failed start now made call ran)
     (since_later (moment start) (moment now) (and_failed (made_since now (moment start)) call) [] ran.begun ∙ ap (λ l. and_failed l call) ran.since) at
@@ -164,11 +164,11 @@ call_failed start now made call after ran front image (inr older) =
 -- are the first of these calls.
 pub law : (start now : History) (calls : List Call) → IsSettled start → Went start calls now
     → (made : List Call) (image : List ℕ) → LeftSince now (moment start) made image
-    → IsFrontOf made calls × Leaves (shown start) made image
+    → IsFrontOf made calls × Leaves (held start) made image
 law start now calls settled (inl all) made image left =
     (ran_all start calls settled).any_moment made image (subst (λ (h : History). LeftSince h (moment start) made image) all left)
 law start now calls settled (inr failed) made image left =
-    subst (λ (l : List Call). IsFrontOf made l × Leaves (shown start) made image) (sym failed.3)
+    subst (λ (l : List Call). IsFrontOf made l × Leaves (held start) made image) (sym failed.3)
     (call_failed start (all_did start failed.0) failed.0 failed.1 failed.2 (ran_all start failed.0 settled) made image
     (subst (λ (h : History). LeftSince h (moment start) made image) failed.4 left))
 

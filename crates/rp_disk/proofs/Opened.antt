@@ -3,7 +3,7 @@ use Rattle.std.proofs.Common.{ℕ, List, [], ◌∷◌, ◌++◌, ◌≡◌, ◌
 use Rattle.rp_disk.specs.declared.call.Call.{Call}
 use Rattle.rp_disk.specs.declared.call.Call.TheVariants.{Write, Sync, SetLen}
 use Rattle.rp_disk.specs.Stops.{Leaves, IsFrontOf}
-use Rattle.rp_disk.specs.History.{History, Did, Failed, shown, moment, and_failed, made_since, MayLeave, LeftSince, all_did}
+use Rattle.rp_disk.specs.History.{History, Did, Failed, held, moment, and_failed, made_since, MayLeave, LeftSince, all_did}
 use Rattle.rp_disk.specs.Runs.{Went}
 use Rattle.rp_disk.proofs.Law.{law, only_now, synced, since_later, made_since-now, front_of_front}
 
@@ -75,7 +75,7 @@ went_behind start now calls (inr failed) = let P : History → Type 0 = Behind s
 -- once the sync has answered Ok
 opened : (start now : History) (calls made : List Call) (image : List ℕ) → Went (Did start Sync) calls now
     → LeftSince now (moment start) made image
-    → MayLeave start image ⊎ ((more : List Call) × (made ≡ Sync ∷ more) × IsFrontOf more calls × Leaves (shown start) more image)
+    → MayLeave start image ⊎ ((more : List Call) × (made ≡ Sync ∷ more) × IsFrontOf more calls × Leaves (held start) more image)
 opened start now calls made image went left = ⊎_elim (λ old. inl old)
     (λ more. let is = law (Did start Sync) now calls (synced start) went more.0 image more.2 in inr (more.0, more.1, is.0, is.1))
     ((went_behind start now calls went).splits made image left)
@@ -114,7 +114,7 @@ behind_first start now made (inr failed) =
 -- was done and the image is in `Leaves` of the bytes shown at the start and the calls made by then behind the sync.
 pub law_behind_sync : (start now : History) (calls made : List Call) → IsFrontOf made (Sync ∷ calls) → Went start made now
     → (by_then : List Call) (image : List ℕ) → LeftSince now (moment start) by_then image
-    → MayLeave start image ⊎ ((more : List Call) × (by_then ≡ Sync ∷ more) × IsFrontOf more calls × Leaves (shown start) more image)
+    → MayLeave start image ⊎ ((more : List Call) × (by_then ≡ Sync ∷ more) × IsFrontOf more calls × Leaves (held start) more image)
 law_behind_sync start now calls [] front (inl same) by_then image left =
     inl ((only_now start by_then image (subst (λ (h : History). LeftSince h (moment start) by_then image) same left)).1)
 law_behind_sync start now calls [] front (inr failed) by_then image left =

@@ -4,7 +4,7 @@ use Rattle.rp_disk.specs.declared.call.Call.{Call}
 use Rattle.rp_disk.specs.declared.call.Call.TheVariants.{Write, Sync, SetLen}
 use Rattle.rp_disk.specs.Calls.{all_done}
 use Rattle.rp_disk.specs.Stops.{IsFrontOf}
-use Rattle.rp_disk.specs.History.{History, Start, Did, Failed, shown, IsSettled, all_did, and_failed}
+use Rattle.rp_disk.specs.History.{History, Start, Did, Failed, held, IsSettled, all_did, and_failed}
 use Rattle.rp_disk.specs.Made.{Made, Done, Broke, dones, count_done, after_made, history_of}
 use Rattle.rp_disk.specs.Runs.{AreFirst, MadeFirst, BrokeOff, Runs, Went, AtAnyMoment, AtAnyMomentBehindSync, EndsSettled}
 use Rattle.rp_disk.proofs.Law.{law, synced, front_of_front}
@@ -31,9 +31,9 @@ all_did-append start [] more = refl
 all_did-append start (call ∷ made) more = all_did-append (Did start call) made more
 
 -- the bytes shown after calls that were done whole
-pub shown-all_did : (start : History) (calls : List Call) → shown (all_did start calls) ≡ all_done (shown start) calls
-shown-all_did start [] = refl
-shown-all_did start (call ∷ calls) = shown-all_did (Did start call) calls
+pub held-all_did : (start : History) (calls : List Call) → held (all_did start calls) ≡ all_done (held start) calls
+held-all_did start [] = refl
+held-all_did start (call ∷ calls) = held-all_did (Did start call) calls
 
 -- after a sync nothing is pending
 pub settled-all_did : (start : History) (calls : List Call) → IsSettled (all_did start (calls ++ Sync ∷ []))
@@ -48,9 +48,9 @@ pub ends_settled : (first : Option (List ℕ)) (old new : List Made) (calls : Li
     → EndsSettled first old (calls ++ Sync ∷ []) new
 ends_settled None old new calls is = tt
 ends_settled (Some bytes) old new calls is =
-    let P : History → Type 0 = λ h. IsSettled h × (shown h ≡ all_done (shown (history_of bytes old)) (calls ++ Sync ∷ [])) in
+    let P : History → Type 0 = λ h. IsSettled h × (held h ≡ all_done (held (history_of bytes old)) (calls ++ Sync ∷ [])) in
     subst P (sym (ap (history_of bytes) is ∙ history_of-dones bytes old (calls ++ Sync ∷ [])))
-    (settled-all_did (history_of bytes old) calls, shown-all_did (history_of bytes old) (calls ++ Sync ∷ []))
+    (settled-all_did (history_of bytes old) calls, held-all_did (history_of bytes old) (calls ++ Sync ∷ []))
 
 -- the first of a plan
 

@@ -11,11 +11,11 @@ pub data History : Type 0 where
   Did : (before : History) → (call : Call) → History
   Failed : (before : History) → (call : Call) → (after : List ℕ) → History
 
--- the bytes that a read gives
-abbrev pub shown : History → List ℕ
-shown (Start bytes) = bytes
-shown (Did before call) = done (shown before) call
-shown (Failed before call after) = after
+-- the bytes that it holds: those that a read gives
+abbrev pub held : History → List ℕ
+held (Start bytes) = bytes
+held (Did before call) = done (held before) call
+held (Failed before call after) = after
 
 -- the moment, as the number of changing calls so far
 abbrev pub moment : History → ℕ
@@ -26,7 +26,7 @@ moment (Failed before call after) = moment before + 1
 -- the bytes shown at the last sync that answered Ok, or at first
 abbrev pub settled_bytes : History → List ℕ
 settled_bytes (Start bytes) = bytes
-settled_bytes (Did before call) = if is_sync call then shown before else settled_bytes before
+settled_bytes (Did before call) = if is_sync call then held before else settled_bytes before
 settled_bytes (Failed before call after) = settled_bytes before
 
 -- calls and one that failed: a sync that failed makes nothing certain, and is left out
@@ -46,7 +46,7 @@ MayLeave history image = Agrees (settled_bytes history) (pending_calls history) 
 -- nothing is pending, so a stop leaves the bytes shown
 pub record IsSettled (history : History) : Type 0 where
   pub calls : pending_calls history ≡ []
-  pub bytes : settled_bytes history ≡ shown history
+  pub bytes : settled_bytes history ≡ held history
 
 -- the calls that were made since a moment, without a sync that failed
 abbrev pub made_since : History → ℕ → List Call
@@ -76,5 +76,5 @@ all_did history (call ∷ calls) = all_did (Did history call) calls
 -- each call that was done whole lay within the bytes shown, and each that failed left what a stop may leave of it
 abbrev pub IsLawful : History → Type 0
 IsLawful (Start bytes) = Unit {0}
-IsLawful (Did before call) = IsLawful before × IsWithin (length (shown before)) call
-IsLawful (Failed before call after) = IsLawful before × Agrees (shown before) (call ∷ []) after
+IsLawful (Did before call) = IsLawful before × IsWithin (length (held before)) call
+IsLawful (Failed before call after) = IsLawful before × Agrees (held before) (call ∷ []) after

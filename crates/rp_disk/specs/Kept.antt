@@ -3,7 +3,7 @@ use Rattle.std.specs.Prelude.{ℕ, List, [], ◌∷◌, ◌+◌, ◌&&◌, nat_l
 use Rattle.rp_disk.specs.declared.call.Call.{Call}
 use Rattle.rp_disk.specs.declared.call.Call.TheVariants.{Write, Sync, SetLen}
 use Rattle.rp_disk.specs.Calls.{done}
-use Rattle.rp_disk.specs.History.{History, Start, Did, Failed, shown}
+use Rattle.rp_disk.specs.History.{History, Start, Did, Failed, held}
 use Rattle.rp_disk.specs.Made.{Made, Done, Broke}
 
 -- a call with its answer, on a disk that shows these bytes: one that failed changed nothing
@@ -12,7 +12,7 @@ answered image call ok = if ok then Done call else Broke call image
 
 -- the history with one more such call
 abbrev pub noted : History → Call → Bool → History
-noted history call ok = if ok then Did history call else Failed history call (shown history)
+noted history call ok = if ok then Did history call else Failed history call (held history)
 
 -- calls with their answers, from a disk that shows these bytes on
 abbrev pub all_answered : List ℕ → List Call → List Bool → List Made
@@ -34,5 +34,5 @@ fits image (SetLen len) = true
 -- each call that was done whole lay within the bytes shown then
 abbrev pub writes_fit : History → Bool
 writes_fit (Start bytes) = true
-writes_fit (Did before call) = writes_fit before && fits (shown before) call
+writes_fit (Did before call) = writes_fit before && fits (held before) call
 writes_fit (Failed before call after) = writes_fit before

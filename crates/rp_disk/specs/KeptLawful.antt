@@ -4,7 +4,7 @@ use Rattle.std.proofs.lemmas.Bool.{leb-true}
 use Rattle.rp_disk.specs.declared.call.Call.{Call}
 use Rattle.rp_disk.specs.declared.call.Call.TheVariants.{Write, Sync, SetLen}
 use Rattle.rp_disk.specs.Calls.{IsWithin}
-use Rattle.rp_disk.specs.History.{History, Start, Did, Failed, shown, IsLawful}
+use Rattle.rp_disk.specs.History.{History, Start, Did, Failed, held, IsLawful}
 use Rattle.rp_disk.specs.Made.{after_made, history_of}
 use Rattle.rp_disk.specs.Kept.{fits, noted, writes_fit, all_answered, first_kept}
 
@@ -20,11 +20,11 @@ kept image first [] oks = Start image
 kept image first (call ∷ calls) oks = replayed (Start first) (call ∷ calls) oks
 
 pub after-answered : (history : History) (calls : List Call) (oks : List Bool)
-    → after_made history (all_answered (shown history) calls oks) ≡ replayed history calls oks
+    → after_made history (all_answered (held history) calls oks) ≡ replayed history calls oks
 after-answered history [] oks = refl
 after-answered history (call ∷ calls) [] = refl
 after-answered history (call ∷ calls) (true ∷ oks) = after-answered (Did history call) calls oks
-after-answered history (call ∷ calls) (false ∷ oks) = after-answered (Failed history call (shown history)) calls oks
+after-answered history (call ∷ calls) (false ∷ oks) = after-answered (Failed history call (held history)) calls oks
 
 -- the history of what is kept, call by call
 pub history-kept : (image first : List ℕ) (calls : List Call) (oks : List Bool)
@@ -49,11 +49,11 @@ within_of image (SetLen len) fit = tt
 lawful_noted : (history : History) (call : Call) (ok : Bool) → IsLawful history → writes_fit (noted history call ok) ≡ true
     → IsLawful (noted history call ok)
 lawful_noted history call true lawful fit =
-    (lawful, within_of (shown history) call (and_right (writes_fit history) (fits (shown history) call) fit))
+    (lawful, within_of (held history) call (and_right (writes_fit history) (fits (held history) call) fit))
 lawful_noted history call false lawful fit = (lawful, record { size = inl refl; kept = λ k lt lt' spares. refl })
 
 fit_before : (history : History) (call : Call) (ok : Bool) → writes_fit (noted history call ok) ≡ true → writes_fit history ≡ true
-fit_before history call true fit = and_left (writes_fit history) (fits (shown history) call) fit
+fit_before history call true fit = and_left (writes_fit history) (fits (held history) call) fit
 fit_before history call false fit = fit
 
 fit_at_first : (history : History) (calls : List Call) (oks : List Bool) → writes_fit (replayed history calls oks) ≡ true

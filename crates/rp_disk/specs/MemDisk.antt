@@ -2,7 +2,7 @@
 use Rattle.std.specs.Prelude.{ℕ, List, [], ◌∷◌, ◌++◌, ◌≡◌, ◌+◌, ◌-◌, ◌^◌, ◌⊎◌, ◌<◌, min, Result, OnOk, OnErr, Contains}
 use Rattle.rp_disk.specs.declared.call.Call.{Call}
 use Rattle.rp_disk.specs.declared.mem.MemDisk.{MemDisk}
-use Rattle.rp_disk.specs.History.{History, shown}
+use Rattle.rp_disk.specs.History.{History, held}
 use Rattle.rp_disk.specs.Made.{Made, Done, Broke}
 use Rattle.rp_disk.specs.Record.{first_bytes, recorded, history_kept}
 
@@ -75,7 +75,7 @@ pub record Records {T E : Type 0} (old new : MemDisk) (call : Call) (fits : Type
   pub starved : starved new ≡ starved old
   pub exact : FailsExactly old new fits result
   pub done : OnOk result (calls new ≡ calls old ++ Done call ∷ [])
-  pub failed : OnErr result (calls new ≡ calls old ++ Broke call (shown (history old)) ∷ [])
+  pub failed : OnErr result (calls new ≡ calls old ++ Broke call (held (history old)) ∷ [])
 
 -- a changing call is numbered, and finds memory or not
 pub record Changes {T E : Type 0} (old new : MemDisk) (call : Call) (fits : Type 0) (result : Result T E) : Type 0 where

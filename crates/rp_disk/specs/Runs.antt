@@ -4,7 +4,7 @@ use Rattle.rp_disk.specs.declared.call.Call.{Call}
 use Rattle.rp_disk.specs.declared.call.Call.TheVariants.{Sync}
 use Rattle.rp_disk.specs.Calls.{all_done}
 use Rattle.rp_disk.specs.Stops.{Leaves, IsFrontOf}
-use Rattle.rp_disk.specs.History.{History, Failed, IsSettled, MayLeave, LeftSince, shown, moment, all_did, and_failed}
+use Rattle.rp_disk.specs.History.{History, Failed, IsSettled, MayLeave, LeftSince, held, moment, all_did, and_failed}
 use Rattle.rp_disk.specs.Made.{Made, Done, Broke, dones, count_done, history_of}
 
 -- the first of the planned calls, each done whole but perhaps the last, which failed
@@ -37,7 +37,7 @@ Went start calls now = (now ≡ all_did start calls)
 abbrev pub AtAnyMoment : Option (List ℕ) → List Made → List Call → List Made → Type 0
 AtAnyMoment first old plan new = IfSome first (λ bytes. IsSettled (history_of bytes old)
     → (made : List Call) (image : List ℕ) → LeftSince (history_of bytes new) (moment (history_of bytes old)) made image
-    → IsFrontOf made plan × Leaves (shown (history_of bytes old)) made image)
+    → IsFrontOf made plan × Leaves (held (history_of bytes old)) made image)
 
 -- the same of a sync and then the planned, from any start: the image could have been left at the start already, or that
 -- sync was done, and the calls behind it are the first of the planned
@@ -45,9 +45,9 @@ abbrev pub AtAnyMomentBehindSync : Option (List ℕ) → List Made → List Call
 AtAnyMomentBehindSync first old plan new = IfSome first (λ bytes.
     (made : List Call) (image : List ℕ) → LeftSince (history_of bytes new) (moment (history_of bytes old)) made image
     → MayLeave (history_of bytes old) image
-    ⊎ ((more : List Call) × (made ≡ Sync ∷ more) × IsFrontOf more plan × Leaves (shown (history_of bytes old)) more image))
+    ⊎ ((more : List Call) × (made ≡ Sync ∷ more) × IsFrontOf more plan × Leaves (held (history_of bytes old)) more image))
 
 -- where a disk tells: the bytes shown are those of all planned calls, and nothing is pending
 abbrev pub EndsSettled : Option (List ℕ) → List Made → List Call → List Made → Type 0
 EndsSettled first old plan new = IfSome first (λ bytes. IsSettled (history_of bytes new)
-    × (shown (history_of bytes new) ≡ all_done (shown (history_of bytes old)) plan))
+    × (held (history_of bytes new) ≡ all_done (held (history_of bytes old)) plan))

@@ -1,7 +1,7 @@
 ghost use Rattle.std.specs.Prelude.{◌≡◌, ◌+◌, ◌≤◌, ℕ, List, Option, length, nat_lt, IfSome, OnOk, IfOk};
 ghost use Rattle.rp_base.specs.Faults.{CountsStray, HasCause};
 ghost use Rattle.rp_base.specs.Image.{bytes_at};
-ghost use Rattle.rp_disk.specs.History.{IsLawful, shown};
+ghost use Rattle.rp_disk.specs.History.{IsLawful, held};
 ghost use Rattle.rp_disk.specs.Made.{Made, Makes, history_told};
 
 use crate::Call;
@@ -34,7 +34,7 @@ pub trait Disk {
     fn len(&mut self) -> Result<u64, Failed>
         ensures first { first self.new ≡ first self.old }
         ensures calls { calls self.new ≡ calls self.old }
-        ensures len { IfSome (history_told (first self.old) (calls self.old)) (λ h. IfOk result (λ n. n ≡ length (shown h))) }
+        ensures len { IfSome (history_told (first self.old) (calls self.old)) (λ h. IfOk result (λ n. n ≡ length (held h))) }
         ensures strays { IfSome (first self.old) (λ _. strays self.new ≡ strays self.old) }
         ensures cause { HasCause (faults self.old) (faults self.new) result };
 
@@ -42,19 +42,19 @@ pub trait Disk {
     fn read(&mut self, at: u64, buf: &mut [u8]) -> Result<(), Failed>
         ensures first { first self.new ≡ first self.old }
         ensures calls { calls self.new ≡ calls self.old }
-        ensures range { IfSome (history_told (first self.old) (calls self.old)) (λ h. OnOk result (at + length buf.old ≤ length (shown h))) }
-        ensures bytes { IfSome (history_told (first self.old) (calls self.old)) (λ h. OnOk result (buf.new ≡ bytes_at (shown h) at (length buf.old))) }
+        ensures range { IfSome (history_told (first self.old) (calls self.old)) (λ h. OnOk result (at + length buf.old ≤ length (held h))) }
+        ensures bytes { IfSome (history_told (first self.old) (calls self.old)) (λ h. OnOk result (buf.new ≡ bytes_at (held h) at (length buf.old))) }
         ensures strays { IfSome (history_told (first self.old) (calls self.old)) (λ h.
-            CountsStray (nat_lt (length (shown h)) (at + length buf.old)) (strays self.old) (strays self.new)) }
+            CountsStray (nat_lt (length (held h)) (at + length buf.old)) (strays self.old) (strays self.new)) }
         ensures cause { HasCause (faults self.old) (faults self.new) result };
 
     /// Writes all the bytes in place from an offset on. One that fails leaves any bytes in its range.
     fn write(&mut self, at: u64, bytes: &[u8]) -> Result<(), Failed>
         ensures first { first self.new ≡ first self.old }
         ensures calls { Makes (calls self.old) (Call.Write at bytes.now) (calls self.new) result }
-        ensures range { IfSome (history_told (first self.old) (calls self.old)) (λ h. OnOk result (at + length bytes.now ≤ length (shown h))) }
+        ensures range { IfSome (history_told (first self.old) (calls self.old)) (λ h. OnOk result (at + length bytes.now ≤ length (held h))) }
         ensures strays { IfSome (history_told (first self.old) (calls self.old)) (λ h.
-            CountsStray (nat_lt (length (shown h)) (at + length bytes.now)) (strays self.old) (strays self.new)) }
+            CountsStray (nat_lt (length (held h)) (at + length bytes.now)) (strays self.old) (strays self.new)) }
         ensures cause { HasCause (faults self.old) (faults self.new) result };
 
     /// Settles the bytes shown: at Ok a stop leaves these and nothing else. One that fails makes nothing certain.

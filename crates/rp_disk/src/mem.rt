@@ -1,6 +1,6 @@
 ghost use Rattle.std.specs.Prelude.{◌≡◌, ◌+◌, ◌-◌, ◌^◌, ◌≤◌, ◌<◌, ◌⊎◌, ◌++◌, ◌∷◌, [], ℕ, List, Some, min, map, length, vec_len, IsTrue, Contains, OnOk, OnErr, ◌↔◌, count_by};
 ghost use Rattle.rp_disk.specs.Calls.{overwritten, is_write as is_write_call};
-ghost use Rattle.rp_disk.specs.History.{shown};
+ghost use Rattle.rp_disk.specs.History.{held};
 ghost use Rattle.rp_disk.specs.Kept.{writes_fit};
 ghost use Rattle.rp_disk.specs.Record.{first_bytes, recorded, history_kept};
 
@@ -25,12 +25,12 @@ pub struct MemDisk {
     faults: u64,
     strays: u64,
     starved: u64,
-    ghost shows: { shown (history_kept bytes.items notes) ≡ bytes.items },
+    ghost shows: { held (history_kept bytes.items notes) ≡ bytes.items },
     ghost fits: { IsTrue (writes_fit (history_kept bytes.items notes)) },
 }
 
 impl MemDisk {
-    ghost use Rattle.rp_disk.specs.History.{Start, shown};
+    ghost use Rattle.rp_disk.specs.History.{Start, held};
     ghost use Rattle.rp_disk.specs.Made.{asked};
     ghost use Rattle.rp_disk.specs.MemDisk.{first, calls, history, starved, made, listed, fuse};
 
@@ -108,7 +108,7 @@ impl MemDisk {
 
     /// The bytes shown.
     pub fn bytes(&self) -> &[u8]
-        ensures { result.now ≡ shown (history self.now) }
+        ensures { result.now ≡ held (history self.now) }
     {
         self.bytes.as_slice()
     }
@@ -142,7 +142,7 @@ impl Disk for MemDisk {
     ghost use Rattle.std.specs.Prelude.{IfOk, nat_lt, ⊤};
     ghost use Rattle.rp_base.specs.Faults.{CountsStray, HasCause};
     ghost use Rattle.rp_base.specs.Image.{bytes_at};
-    ghost use Rattle.rp_disk.specs.History.{shown};
+    ghost use Rattle.rp_disk.specs.History.{held};
     ghost use Rattle.rp_disk.specs.Made.{Makes};
     ghost use Rattle.rp_disk.specs.MemDisk.{first, calls, history, faults_of, strays_of, Reads, Changes};
 
@@ -165,7 +165,7 @@ impl Disk for MemDisk {
     fn len(&mut self) -> Result<u64, Failed>
         ensures first { first self.new ≡ first self.old }
         ensures calls { calls self.new ≡ calls self.old }
-        ensures len { IfOk result (λ n. n ≡ length (shown (history self.old))) }
+        ensures len { IfOk result (λ n. n ≡ length (held (history self.old))) }
         ensures strays { strays_of self.new ≡ strays_of self.old }
         ensures cause { HasCause (faults_of self.old) (faults_of self.new) result }
         ensures exact { Reads self.old self.new ⊤ result }
@@ -179,11 +179,11 @@ impl Disk for MemDisk {
     fn read(&mut self, at: u64, buf: &mut [u8]) -> Result<(), Failed>
         ensures first { first self.new ≡ first self.old }
         ensures calls { calls self.new ≡ calls self.old }
-        ensures range { OnOk result (at + length buf.old ≤ length (shown (history self.old))) }
-        ensures bytes { OnOk result (buf.new ≡ bytes_at (shown (history self.old)) at (length buf.old)) }
-        ensures strays { CountsStray (nat_lt (length (shown (history self.old))) (at + length buf.old)) (strays_of self.old) (strays_of self.new) }
+        ensures range { OnOk result (at + length buf.old ≤ length (held (history self.old))) }
+        ensures bytes { OnOk result (buf.new ≡ bytes_at (held (history self.old)) at (length buf.old)) }
+        ensures strays { CountsStray (nat_lt (length (held (history self.old))) (at + length buf.old)) (strays_of self.old) (strays_of self.new) }
         ensures cause { HasCause (faults_of self.old) (faults_of self.new) result }
-        ensures exact { Reads self.old self.new (at + length buf.old ≤ length (shown (history self.old))) result }
+        ensures exact { Reads self.old self.new (at + length buf.old ≤ length (held (history self.old))) result }
     {
         let failing = is_to_fail(&mut self.made, &self.fail, self.fuse);
         let inside = is_inside(at, buf.len(), self.bytes.len());
@@ -201,10 +201,10 @@ impl Disk for MemDisk {
     fn write(&mut self, at: u64, bytes: &[u8]) -> Result<(), Failed>
         ensures first { first self.new ≡ first self.old }
         ensures calls { Makes (calls self.old) (Call.Write at bytes.now) (calls self.new) result }
-        ensures range { OnOk result (at + length bytes.now ≤ length (shown (history self.old))) }
-        ensures strays { CountsStray (nat_lt (length (shown (history self.old))) (at + length bytes.now)) (strays_of self.old) (strays_of self.new) }
+        ensures range { OnOk result (at + length bytes.now ≤ length (held (history self.old))) }
+        ensures strays { CountsStray (nat_lt (length (held (history self.old))) (at + length bytes.now)) (strays_of self.old) (strays_of self.new) }
         ensures cause { HasCause (faults_of self.old) (faults_of self.new) result }
-        ensures exact { Changes self.old self.new (Call.Write at bytes.now) (at + length bytes.now ≤ length (shown (history self.old))) result }
+        ensures exact { Changes self.old self.new (Call.Write at bytes.now) (at + length bytes.now ≤ length (held (history self.old))) result }
     {
         let failing = is_to_fail(&mut self.made, &self.fail, self.fuse);
         let inside = is_inside(at, bytes.len(), self.bytes.len());

@@ -1,6 +1,6 @@
 ghost use Rattle.std.specs.Prelude.{List, Option, ◌++◌, ℕ, ◌≡◌, [], ◌∷◌, ◌⊎◌, ◌↔◌, ◌+◌, ◌≤◌, length, take, drop};
 ghost use Rattle.rp_disk.specs.Stops.{Agrees, IsFrontOf, Leaves};
-ghost use Rattle.rp_disk.specs.History.{History, Failed, IsLawful, IsSettled, LeftSince, MayLeave, did, made_since, moment, shown};
+ghost use Rattle.rp_disk.specs.History.{History, Failed, IsLawful, IsSettled, LeftSince, MayLeave, did, made_since, moment, held};
 ghost use Rattle.rp_disk.specs.Made.{Made, dones};
 ghost use Rattle.rp_disk.specs.Runs.{AtAnyMoment, AtAnyMomentBehindSync, EndsSettled, MadeFirst, Went};
 ghost use Rattle.rp_disk.specs.declared.call.Call.{Call};
@@ -10,7 +10,7 @@ ghost use Rattle.rp_disk.specs.declared.call.Call.{Call};
 /// calls made by then, which are the first of the calls since. A sync that failed at the end is none of these.
 pub fn stops_law()
     ensures { (start now : History) (calls : List Call) → IsSettled start → Went start calls now
-        → (made : List Call) (image : List ℕ) → LeftSince now (moment start) made image → IsFrontOf made calls × Leaves (shown start) made image }
+        → (made : List Call) (image : List ℕ) → LeftSince now (moment start) made image → IsFrontOf made calls × Leaves (held start) made image }
 {}
 
 /// The law for calls that begin with a sync, at any start, where something may be pending. Each image that a stop since
@@ -19,7 +19,7 @@ pub fn stops_law()
 pub fn opening_law()
     ensures { (start now : History) (calls made : List Call) → IsFrontOf made (Call.Sync ∷ calls) → Went start made now
         → (by_then : List Call) (image : List ℕ) → LeftSince now (moment start) by_then image
-        → MayLeave start image ⊎ ((more : List Call) × (by_then ≡ Call.Sync ∷ more) × IsFrontOf more calls × Leaves (shown start) more image) }
+        → MayLeave start image ⊎ ((more : List Call) × (by_then ≡ Call.Sync ∷ more) × IsFrontOf more calls × Leaves (held start) more image) }
 {}
 
 /// What a stop may leave of one call: of a write any bytes in its range, and the others as they were; of a sync the
@@ -45,12 +45,12 @@ pub fn moments_law()
 /// After a sync that answered Ok nothing is pending, and then a stop leaves the bytes shown and nothing else.
 pub fn settled_law()
     ensures synced { (history : History) → IsSettled (did history Call.Sync) }
-    ensures left { (history : History) (image : List ℕ) → IsSettled history → MayLeave history image → image ≡ shown history }
+    ensures left { (history : History) (image : List ℕ) → IsSettled history → MayLeave history image → image ≡ held history }
 {}
 
 /// What a lawful disk shows is among what a stop now may leave.
 pub fn shown_law()
-    ensures { (history : History) → IsLawful history → MayLeave history (shown history) }
+    ensures { (history : History) → IsLawful history → MayLeave history (held history) }
 {}
 
 /// The law for callers: where since the old calls the first of the planned were made, at any moment a stop leaves what

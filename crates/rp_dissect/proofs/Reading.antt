@@ -5,7 +5,7 @@ use Rattle.rp_base.specs.Answers.{Gives}
 use Rattle.rp_base.specs.Geometry.{IsSector, sector_units, usable_end}
 use Rattle.rp_base.specs.declared.seen.Seen.{Seen}
 use Rattle.rp_base.specs.declared.table.Row.{Row}
-use Rattle.rp_disk.specs.History.{shown}
+use Rattle.rp_disk.specs.History.{held}
 use Rattle.rp_disk.specs.Made.{Made, history_told}
 use Rattle.rp_gpt.specs.Accepted.{IsSeen}
 use Rattle.rp_gpt.specs.Shown.{accepted}
@@ -84,8 +84,8 @@ rows_in sector seen rows len is same whole =
 
 -- no call passed the end, of those that read the table, and of those behind
 pub no_strays : (first again : Option (List ℕ)) (calls made : List Made) (strays some more end : ℕ) → again ≡ first → made ≡ calls
-    → IfSome first (λ _. some ≡ strays) → IfSome (history_told first calls) (λ h. end ≤ length (shown h))
-    → IfSome (history_told again made) (λ h. end ≤ length (shown h) → more ≡ some) → IfSome first (λ _. more ≡ strays)
+    → IfSome first (λ _. some ≡ strays) → IfSome (history_told first calls) (λ h. end ≤ length (held h))
+    → IfSome (history_told again made) (λ h. end ≤ length (held h) → more ≡ some) → IfSome first (λ _. more ≡ strays)
 no_strays None again calls made strays some more end f m one within two = tt
 no_strays (Some bytes) again calls made strays some more end f m one within two =
-    told_before (λ h. end ≤ length (shown h) → more ≡ some) (Some bytes) again calls made f m two within ∙ one
+    told_before (λ h. end ≤ length (held h) → more ≡ some) (Some bytes) again calls made f m two within ∙ one

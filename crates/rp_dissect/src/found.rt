@@ -2,7 +2,7 @@
 
 ghost use Rattle.std.specs.Prelude.{◌≡◌, ◌≤◌, ◌*◌, All, IfSome, IfOk, OnOk, length, map};
 ghost use Rattle.rp_base.specs.Image.{bytes_at};
-ghost use Rattle.rp_disk.specs.History.{shown};
+ghost use Rattle.rp_disk.specs.History.{held};
 ghost use Rattle.rp_disk.specs.Made.{history_told};
 ghost use Rattle.rp_policy.specs.Reading.{designators};
 ghost use Rattle.rp_tree.specs.Reads.{Reads, end_of};
@@ -40,7 +40,7 @@ pub fn found_in<D: Disk>(
     requires room { 24576 ≤ length room.old }
     ensures reads { Reads (farthest rows.now) (D.first disk.old) (D.first disk.new) (D.calls disk.old) (D.calls disk.new) (D.strays disk.old) (D.strays disk.new) (D.faults disk.old) (D.faults disk.new) result }
     ensures found { IfSome (history_told (D.first disk.old) (D.calls disk.old)) (λ h.
-        IfOk result (λ found. found ≡ map (found_of (shown h) arch rows.now) designators)) }
+        IfOk result (λ found. found ≡ map (found_of (held h) arch rows.now) designators)) }
 {
     let mut found = [None; 13];
     for (place, designator) in DESIGNATORS.iter().enumerate() {
@@ -60,7 +60,7 @@ fn found_of<D: Disk>(
     requires rows { All EndsWell rows.now }
     requires room { 24576 ≤ length room.old }
     ensures reads { Reads (farthest rows.now) (D.first disk.old) (D.first disk.new) (D.calls disk.old) (D.calls disk.new) (D.strays disk.old) (D.strays disk.new) (D.faults disk.old) (D.faults disk.new) result }
-    ensures found { IfSome (history_told (D.first disk.old) (D.calls disk.old)) (λ h. IfOk result (λ found. found ≡ found_of (shown h) arch rows.now designator)) }
+    ensures found { IfSome (history_told (D.first disk.old) (D.calls disk.old)) (λ h. IfOk result (λ found. found ≡ found_of (held h) arch rows.now designator)) }
 {
     let Some(row) = row_of(rows, arch, designator) else {
         return Ok(None);
@@ -92,7 +92,7 @@ fn kinds_of<D: Disk>(
     requires tree { IfSome tree EndsWell }
     requires room { 24576 ≤ length room.old }
     ensures reads { Reads (ends_with row.now tree) (D.first disk.old) (D.first disk.new) (D.calls disk.old) (D.calls disk.new) (D.strays disk.old) (D.strays disk.new) (D.faults disk.old) (D.faults disk.new) result }
-    ensures kinds { IfSome (history_told (D.first disk.old) (D.calls disk.old)) (λ h. IfOk result (λ kinds. kinds.0 ≡ kinds_of (shown h) row.now tree)) }
+    ensures kinds { IfSome (history_told (D.first disk.old) (D.calls disk.old)) (λ h. IfOk result (λ kinds. kinds.0 ≡ kinds_of (held h) row.now tree)) }
 {
     if row.size < BLOCK_UNITS {
         return Ok(Flags::UNPROTECTED);
@@ -113,7 +113,7 @@ fn is_luks<D: Disk>(disk: &mut D, row: &Row) -> Result<bool, Failed>
     requires row { EndsWell row.now }
     requires size { 8 ≤ row.now.size }
     ensures reads { Reads (end_of row.now) (D.first disk.old) (D.first disk.new) (D.calls disk.old) (D.calls disk.new) (D.strays disk.old) (D.strays disk.new) (D.faults disk.old) (D.faults disk.new) result }
-    ensures luks { IfSome (history_told (D.first disk.old) (D.calls disk.old)) (λ h. IfOk result (λ luks. luks ≡ is_luks (shown h) row.now)) }
+    ensures luks { IfSome (history_told (D.first disk.old) (D.calls disk.old)) (λ h. IfOk result (λ luks. luks ≡ is_luks (held h) row.now)) }
 {
     let mut bytes = [0; 6];
     read_front(disk, row, &mut bytes)?;
@@ -125,7 +125,7 @@ fn read_front<D: Disk>(disk: &mut D, row: &Row, buf: &mut [u8]) -> Result<(), Fa
     requires row { EndsWell row.now }
     requires size { length buf.old ≤ 512 * row.now.size }
     ensures reads { Reads (end_of row.now) (D.first disk.old) (D.first disk.new) (D.calls disk.old) (D.calls disk.new) (D.strays disk.old) (D.strays disk.new) (D.faults disk.old) (D.faults disk.new) result }
-    ensures bytes { IfSome (history_told (D.first disk.old) (D.calls disk.old)) (λ h. OnOk result (buf.new ≡ bytes_at (shown h) (512 * row.now.start) (length buf.old))) }
+    ensures bytes { IfSome (history_told (D.first disk.old) (D.calls disk.old)) (λ h. OnOk result (buf.new ≡ bytes_at (held h) (512 * row.now.start) (length buf.old))) }
 {
     disk.read(UNIT * row.start, buf)
 }
@@ -142,7 +142,7 @@ fn has_tree<D: Disk>(
     requires tree { IfSome tree EndsWell }
     requires room { 24576 ≤ length room.old }
     ensures reads { Reads (ends_with row.now tree) (D.first disk.old) (D.first disk.new) (D.calls disk.old) (D.calls disk.new) (D.strays disk.old) (D.strays disk.new) (D.faults disk.old) (D.faults disk.new) result }
-    ensures tree { IfSome (history_told (D.first disk.old) (D.calls disk.old)) (λ h. IfOk result (λ right. right ≡ has_tree (shown h) row.now tree)) }
+    ensures tree { IfSome (history_told (D.first disk.old) (D.calls disk.old)) (λ h. IfOk result (λ right. right ≡ has_tree (held h) row.now tree)) }
 {
     match tree {
         Some(hash) if hash.size >= BLOCK_UNITS => check_root(disk, row, &hash, room),

@@ -4,7 +4,7 @@ ghost use Rattle.std.specs.Prelude.{◌≡◌, ◌⊎◌, IfSome, IfOk, IfErr, E
 ghost use Rattle.rp_base.specs.Answers.{Gives};
 ghost use Rattle.rp_base.specs.Faults.{Rose};
 ghost use Rattle.rp_base.specs.Geometry.{IsSector};
-ghost use Rattle.rp_disk.specs.History.{shown};
+ghost use Rattle.rp_disk.specs.History.{held};
 ghost use Rattle.rp_disk.specs.Made.{history_told};
 ghost use Rattle.rp_dissect.specs.Dissected.{of_table, verdicts};
 ghost use Rattle.rp_verdict.specs.Verdicts.{AreVerdicts, IsOwn};
@@ -28,7 +28,7 @@ pub fn dissect<D: Disk>(
     ensures calls { D.calls disk.new ≡ D.calls disk.old }
     ensures strays { IfSome (D.first disk.old) (λ _. D.strays disk.new ≡ D.strays disk.old) }
     ensures answer { IfSome (history_told (D.first disk.old) (D.calls disk.old)) (λ h.
-        (result ≡ Err DissectFault.Disk) ⊎ Gives DissectFault.Memory (verdicts 512 (shown h) arch policy.now) result) }
+        (result ≡ Err DissectFault.Disk) ⊎ Gives DissectFault.Memory (verdicts 512 (held h) arch policy.now) result) }
     ensures fault { result ≡ Err DissectFault.Disk → Rose (D.faults disk.old) (D.faults disk.new) }
     ensures kept { (result ≡ Err DissectFault.Disk) ⊎ (D.faults disk.new ≡ D.faults disk.old) }
     ensures verdicts { IfOk result AreVerdicts }
@@ -52,7 +52,7 @@ pub fn dissect_at<D: Disk>(
     ensures calls { D.calls disk.new ≡ D.calls disk.old }
     ensures strays { IfSome (D.first disk.old) (λ _. D.strays disk.new ≡ D.strays disk.old) }
     ensures answer { IfSome (history_told (D.first disk.old) (D.calls disk.old)) (λ h.
-        (result ≡ Err DissectFault.Disk) ⊎ Gives DissectFault.Memory (verdicts sector (shown h) arch policy.now) result) }
+        (result ≡ Err DissectFault.Disk) ⊎ Gives DissectFault.Memory (verdicts sector (held h) arch policy.now) result) }
     ensures fault { result ≡ Err DissectFault.Disk → Rose (D.faults disk.old) (D.faults disk.new) }
     ensures kept { (result ≡ Err DissectFault.Disk) ⊎ (D.faults disk.new ≡ D.faults disk.old) }
     ensures verdicts { IfOk result AreVerdicts }

@@ -4,7 +4,7 @@ use Rattle.std.specs.Prelude.{IfSome}
 use Rattle.rp_base.specs.Answers.{Gives}
 use Rattle.rp_base.specs.Faults.{Rose}
 use Rattle.rp_denial.specs.Denials.{Denies}
-use Rattle.rp_disk.specs.History.{History, shown}
+use Rattle.rp_disk.specs.History.{History, held}
 use Rattle.rp_dissect.specs.Dissected.{verdicts}
 use Rattle.rp_dissect_command.specs.Dissects.{DissectsRead, Reads, Tells}
 use Rattle.rp_dissect_command.specs.Statuses.{DissectByStatus}
@@ -50,8 +50,8 @@ fault_status table.Memory = inr (inr refl)
 -- the answer of a read that told no failure of the disk and no want of memory is what the policy says of the image
 says : (o : Option History) (sector : ℕ) (arch : Arch) (policy : Policy) (answer : Answer) → (answer ≡ Err faults.Disk → ⊥)
     → (answer ≡ Err faults.Memory → ⊥)
-    → IfSome o (λ h. (answer ≡ Err faults.Disk) ⊎ Gives faults.Memory (verdicts sector (shown h) arch policy) answer)
-    → IfSome o (λ h. verdicts sector (shown h) arch policy ≡ answer)
+    → IfSome o (λ h. (answer ≡ Err faults.Disk) ⊎ Gives faults.Memory (verdicts sector (held h) arch policy) answer)
+    → IfSome o (λ h. verdicts sector (held h) arch policy ≡ answer)
 says None sector arch policy answer disk memory given = tt
 says (Some h) sector arch policy answer disk memory (inl e) = absurd (disk e)
 says (Some h) sector arch policy answer disk memory (inr (inl e)) = sym e

@@ -3,7 +3,7 @@ use Rattle.std.specs.Prelude.{ℕ, ◌≡◌, ◌⊎◌, List, Bool, Result, Ok,
 use Rattle.rp_base.specs.Answers.{Gives}
 use Rattle.rp_base.specs.Faults.{Rose}
 use Rattle.rp_denial.specs.Denials.{Denies, policy_refusal}
-use Rattle.rp_disk.specs.History.{shown}
+use Rattle.rp_disk.specs.History.{held}
 use Rattle.rp_dissect.specs.Dissected.{verdicts}
 use Rattle.rp_outcome.specs.Device.{Device, IsOnlyRead, history}
 use Rattle.rp_outcome.specs.Output.{Output, Finishes, Refuses}
@@ -22,7 +22,7 @@ use Rattle.rp_verdict_text.specs.Reports.{verdict_report}
 -- which it counted, and want of memory
 pub record Reads (policy : Policy) (arch : Arch) (sector : ℕ) (before now : Device) (answer : Result Verdicts DissectFault) : Type 0 where
   pub only_read : IsOnlyRead before now
-  pub verdicts_are : IfSome (history before) (λ h. (answer ≡ Err faults.Disk) ⊎ Gives faults.Memory (verdicts sector (shown h) arch policy) answer)
+  pub verdicts_are : IfSome (history before) (λ h. (answer ≡ Err faults.Disk) ⊎ Gives faults.Memory (verdicts sector (held h) arch policy) answer)
   pub failed : answer ≡ Err faults.Disk → Rose before.faults now.faults
   pub kept : (answer ≡ Err faults.Disk) ⊎ (now.faults ≡ before.faults)
   pub own : IfErr answer IsOwn

@@ -1,7 +1,7 @@
 -- What is known of `dissect` at each exit status.
 use Rattle.std.specs.Prelude.{ℕ, ◌≡◌, ◌⊎◌, [], Bool, Result, Ok, Err, IfSome, IsErr, IsOkAnd, IsErrAnd}
 use Rattle.rp_denial.specs.Denials.{denied_line, policy, policy_refusal}
-use Rattle.rp_disk.specs.History.{shown}
+use Rattle.rp_disk.specs.History.{held}
 use Rattle.rp_dissect.specs.Dissected.{verdicts}
 use Rattle.rp_gpt.specs.declared.table_fault.TableFault.{TableFault}
 use Rattle.rp_outcome.specs.Causes.{HasCauses}
@@ -21,7 +21,7 @@ use Rattle.rp_verdict_text.specs.Reports.{verdict_report}
 
 -- of the image this is what a policy says, where the disk tells it
 abbrev pub Says : Policy → Arch → ℕ → Device → Result Verdicts DissectFault → Type 0
-Says policy arch sector disk answer = IfSome (history disk) (λ h. verdicts sector (shown h) arch policy ≡ answer)
+Says policy arch sector disk answer = IfSome (history disk) (λ h. verdicts sector (held h) arch policy ≡ answer)
 
 -- the line of the reason why an image isn't accepted was printed
 abbrev pub TellsTable : Policy → Arch → ℕ → Device → Output → Output → Type 0

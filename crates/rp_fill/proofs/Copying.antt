@@ -6,7 +6,7 @@ use Rattle.std.proofs.lemmas.List.{append-nil, length-replicate}
 use Rattle.rp_base.specs.Faults.{CountsStray}
 use Rattle.rp_base.specs.Image.{bytes_at}
 use Rattle.rp_disk.specs.Calls.{overwritten, resized}
-use Rattle.rp_disk.specs.History.{shown}
+use Rattle.rp_disk.specs.History.{held}
 use Rattle.rp_disk.specs.Made.{Made, Done, dones, history_of, history_told}
 use Rattle.rp_disk.specs.Ranges.{Inside}
 use Rattle.rp_disk.specs.Runs.{BrokeOff, Runs}
@@ -15,7 +15,7 @@ use Rattle.rp_disk.specs.declared.call.Call.{Call}
 use Rattle.rp_disk.specs.declared.call.Call.TheVariants.{Write}
 use Rattle.rp_disk.proofs.Agreeing.{length-overwritten, length-resized}
 use Rattle.rp_disk.proofs.Ranges.{length-all_done}
-use Rattle.rp_disk.proofs.Runs.{broke_off_in, history_of-dones, one_more, shown-all_did}
+use Rattle.rp_disk.proofs.Runs.{broke_off_in, history_of-dones, one_more, held-all_did}
 use Rattle.rp_io.specs.Files.{Reads, content, passes}
 use Rattle.rp_io.specs.declared.stored.Stored.{Stored}
 use Rattle.rp_steps.specs.Calls.{in_pieces}
@@ -29,15 +29,15 @@ use Rattle.rp_fill.proofs.Pieces.{all_pieces, piece-put, piece_call, piece_in, p
 
 -- no call went past the end of a disk that reaches so far
 unfoldable pub StaysIn : Option (List ℕ) → List Made → ℕ → ℕ → ℕ → Type 0
-StaysIn first calls end old new = IfSome (history_told first calls) (λ h. end ≤ length (shown h) → new ≡ old)
+StaysIn first calls end old new = IfSome (history_told first calls) (λ h. end ≤ length (held h) → new ≡ old)
 
 pub stays_in : (first : Option (List ℕ)) (calls : List Made) (end old new : ℕ)
-    → IfSome (history_told first calls) (λ h. end ≤ length (shown h) → new ≡ old) → StaysIn first calls end old new
+    → IfSome (history_told first calls) (λ h. end ≤ length (held h) → new ≡ old) → StaysIn first calls end old new
 unfolding StaysIn
 stays_in first calls end old new stays = stays
 
 pub stays_says : (first : Option (List ℕ)) (calls : List Made) (end old new : ℕ) → StaysIn first calls end old new
-    → IfSome (history_told first calls) (λ h. end ≤ length (shown h) → new ≡ old)
+    → IfSome (history_told first calls) (λ h. end ≤ length (held h) → new ≡ old)
 unfolding StaysIn
 stays_says first calls end old new stays = stays
 
@@ -47,11 +47,11 @@ stays_none None calls end strays = tt
 stays_none (Some bytes) calls end strays = λ reaches. refl
 
 -- calls inside a disk keep its length
-same_length : (bytes : List ℕ) (old : List Made) (calls : List Call) (end : ℕ) → Each (Inside (length (shown (history_of bytes old)))) calls
-    → length (shown (history_of bytes (old ++ dones calls))) ≡ length (shown (history_of bytes old))
+same_length : (bytes : List ℕ) (old : List Made) (calls : List Call) (end : ℕ) → Each (Inside (length (held (history_of bytes old)))) calls
+    → length (held (history_of bytes (old ++ dones calls))) ≡ length (held (history_of bytes old))
 same_length bytes old calls end inside =
-    ap (λ h. length (shown h)) (history_of-dones bytes old calls) ∙ ap length (shown-all_did (history_of bytes old) calls)
-    ∙ length-all_done calls (shown (history_of bytes old)) _ refl inside
+    ap (λ h. length (held h)) (history_of-dones bytes old calls) ∙ ap length (held-all_did (history_of bytes old) calls)
+    ∙ length-all_done calls (held (history_of bytes old)) _ refl inside
 
 pub stays_more : (first then_first : Option (List ℕ)) (old mid : List Made) (calls : List Call) (end some a b c : ℕ)
     → ((n : ℕ) → end ≤ n → Each (Inside n) calls) → then_first ≡ first → mid ≡ old ++ dones calls → some ≤ end
@@ -59,19 +59,19 @@ pub stays_more : (first then_first : Option (List ℕ)) (old mid : List Made) (c
 unfolding StaysIn
 stays_more None then_first old mid calls end some a b c inside same so fits before after = tt
 stays_more (Some bytes) then_first old mid calls end some a b c inside same so fits before after = λ reaches.
-    let later : IfSome (history_told (Some bytes) (old ++ dones calls)) (λ h. some ≤ length (shown h) → c ≡ b) =
+    let later : IfSome (history_told (Some bytes) (old ++ dones calls)) (λ h. some ≤ length (held h) → c ≡ b) =
     rw so at (rw same at after) in
     let long = same_length bytes old calls end (inside _ reaches) in
     later (omega (arith, long)) ∙ before reaches
 
 stray_stays : (first : Option (List ℕ)) (calls : List Made) (end old new : ℕ)
-    → IfSome (history_told first calls) (λ h. CountsStray (nat_lt (length (shown h)) end) old new) → StaysIn first calls end old new
+    → IfSome (history_told first calls) (λ h. CountsStray (nat_lt (length (held h)) end) old new) → StaysIn first calls end old new
 unfolding StaysIn
 stray_stays None calls end old new counts = tt
 stray_stays (Some bytes) calls end old new counts = λ reaches. counts.kept (le-ltb _ _ reaches)
 
 pub stays_at : (first : Option (List ℕ)) (calls : List Made) (end old new : ℕ)
-    → IfSome (history_told first calls) (λ h. CountsStray (nat_lt (length (shown h)) end) old new) → StaysIn first calls end old new
+    → IfSome (history_told first calls) (λ h. CountsStray (nat_lt (length (held h)) end) old new) → StaysIn first calls end old new
 stays_at = stray_stays
 
 -- no call passed the end of a file that reaches so far

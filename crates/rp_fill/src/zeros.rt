@@ -1,6 +1,6 @@
 ghost use Rattle.std.specs.Prelude.{◌≡◌, ◌+◌, ◌^◌, ◌<◌, ◌≤◌, IfSome, length, replicate};
 ghost use Rattle.rp_base.specs.Faults.{HasCause};
-ghost use Rattle.rp_disk.specs.History.{shown};
+ghost use Rattle.rp_disk.specs.History.{held};
 ghost use Rattle.rp_disk.specs.Made.{history_told};
 ghost use Rattle.rp_disk.specs.Runs.{Runs};
 ghost use Rattle.rp_steps.specs.Calls.{in_pieces};
@@ -17,7 +17,7 @@ pub fn write_zeros<D: Disk>(disk: &mut D, at: u64, len: u64, room: &mut [u8]) ->
     requires room { piece ≤ length room.old }
     ensures first { D.first disk.new ≡ D.first disk.old }
     ensures ran { Runs (D.calls disk.old) (in_pieces at (replicate len 0)) (D.calls disk.new) result }
-    ensures strays { IfSome (history_told (D.first disk.old) (D.calls disk.old)) (λ h. at + len ≤ length (shown h) → D.strays disk.new ≡ D.strays disk.old) }
+    ensures strays { IfSome (history_told (D.first disk.old) (D.calls disk.old)) (λ h. at + len ≤ length (held h) → D.strays disk.new ≡ D.strays disk.old) }
     ensures cause { HasCause (D.faults disk.old) (D.faults disk.new) result }
 {
     room.fill(0);

@@ -10,7 +10,7 @@ use Rattle.rp_base.specs.Trees.{hash_blocks, levels}
 use Rattle.rp_base.specs.declared.faults.Failed.{Failed}
 use Rattle.rp_disk.specs.declared.call.Call.{Call}
 use Rattle.rp_disk.specs.Calls.{resized}
-use Rattle.rp_disk.specs.History.{IsLawful, shown}
+use Rattle.rp_disk.specs.History.{IsLawful, held}
 use Rattle.rp_disk.specs.Made.{Made, dones, history_of, history_told}
 use Rattle.rp_disk.specs.Ranges.{Apart}
 use Rattle.rp_disk.specs.Runs.{BrokeOff, MadeFirst}
@@ -44,14 +44,14 @@ pub record SoFar (tree : TreePlan) (first : Option (List ℕ)) (old : List Made)
   pub has : HasTaken builder tree.salt taken
   pub count : length taken ≡ k
   pub whole : All IsBlock taken
-  pub shown : IfSome first (λ bytes. tree.data_at + 4096 * k ≤ length (shown (history_of bytes old))
-      → taken ≡ cut k (row_bytes tree (shown (history_of bytes old))))
+  pub shown : IfSome first (λ bytes. tree.data_at + 4096 * k ≤ length (held (history_of bytes old))
+      → taken ≡ cut k (row_bytes tree (held (history_of bytes old))))
   pub calls : (rest : List (List ℕ)) → length (taken ++ rest) ≡ tree.blocks
       → now ≡ old ++ dones (writes_of tree.hash_at (so_far_puts tree (taken ++ rest) k))
 
 none_shown : (tree : TreePlan) (first : Option (List ℕ)) (old : List Made)
-    → IfSome first (λ bytes. tree.data_at + 4096 * 0 ≤ length (shown (history_of bytes old))
-    → [] ≡ cut 0 (row_bytes tree (shown (history_of bytes old))))
+    → IfSome first (λ bytes. tree.data_at + 4096 * 0 ≤ length (held (history_of bytes old))
+    → [] ≡ cut 0 (row_bytes tree (held (history_of bytes old))))
 none_shown tree None old = tt
 none_shown tree (Some bytes) old = λ fits. refl
 
@@ -137,9 +137,9 @@ bytes_within image at m a n inside =
 pub run_shown : (tree : TreePlan) (plan : IsTreePlan tree) (first : Option (List ℕ)) (old : List Made) (builder : Builder) (k count : ℕ)
     (now : List Made) (taken : List (List ℕ)) (run : List ℕ) → SoFar tree first old builder k now taken → k + count ≤ tree.blocks
     → IfSome (history_told first now) IsLawful
-    → IfSome (history_told first now) (λ h. tree.data_at + 4096 * k + 4096 * count ≤ length (shown h))
-    → IfSome (history_told first now) (λ h. run ≡ bytes_at (shown h) (tree.data_at + 4096 * k) (4096 * count))
-    → IfSome (history_told first old) (λ h. run ≡ bytes_at (shown h) (tree.data_at + 4096 * k) (4096 * count))
+    → IfSome (history_told first now) (λ h. tree.data_at + 4096 * k + 4096 * count ≤ length (held h))
+    → IfSome (history_told first now) (λ h. run ≡ bytes_at (held h) (tree.data_at + 4096 * k) (4096 * count))
+    → IfSome (history_told first old) (λ h. run ≡ bytes_at (held h) (tree.data_at + 4096 * k) (4096 * count))
 run_shown tree plan first old builder k count now taken run so below lawful reaches read =
     still_shown (tree.data_at + 4096 * k) (4096 * count) first old now run
     (length_so_far tree first old builder k now taken so (omega arith) lawful)
@@ -147,13 +147,13 @@ run_shown tree plan first old builder k count now taken run so below lawful reac
 
 -- one of them is the data block of its number
 pub run_block : (tree : TreePlan) (first : Option (List ℕ)) (old : List Made) (k count i : ℕ) (run : List ℕ) → length run ≡ 4096 * count
-    → i < count → IfSome (history_told first old) (λ h. run ≡ bytes_at (shown h) (tree.data_at + 4096 * k) (4096 * count))
+    → i < count → IfSome (history_told first old) (λ h. run ≡ bytes_at (held h) (tree.data_at + 4096 * k) (4096 * count))
     → IsBlockAt tree (k + i) first old (bytes_at run (4096 * i) 4096)
 run_block tree None old k count i run long below is = record { size = length-bytes_at run (4096 * i) 4096 (omega arith); shown = tt }
 run_block tree (Some bytes) old k count i run long below is = record {
   size = length-bytes_at run (4096 * i) 4096 (omega arith);
   shown = λ fits.
-      let image : List ℕ = shown (history_of bytes old) in
+      let image : List ℕ = held (history_of bytes old) in
       let place : tree.data_at + 4096 * k + 4096 * i ≡ tree.data_at + 4096 * (k + i) = omega arith in
       ap (λ (l : List ℕ). bytes_at l (4096 * i) 4096) is
       ∙ bytes_within image (tree.data_at + 4096 * k) (4096 * count) (4096 * i) 4096 (omega arith)
@@ -168,8 +168,8 @@ AreRead tree k count first old digests =
 pub run_read : (tree : TreePlan) (plan : IsTreePlan tree) (first : Option (List ℕ)) (old : List Made) (builder : Builder) (k count n : ℕ)
     (now : List Made) (taken : List (List ℕ)) (run : List ℕ) (digests : List (List ℕ)) → SoFar tree first old builder k now taken
     → k + count ≤ tree.blocks → n ≡ 4096 * count → length run ≡ n → IfSome (history_told first now) IsLawful
-    → IfSome (history_told first now) (λ h. tree.data_at + 4096 * k + n ≤ length (shown h))
-    → IfSome (history_told first now) (λ h. run ≡ bytes_at (shown h) (tree.data_at + 4096 * k) n)
+    → IfSome (history_told first now) (λ h. tree.data_at + 4096 * k + n ≤ length (held h))
+    → IfSome (history_told first now) (λ h. run ≡ bytes_at (held h) (tree.data_at + 4096 * k) n)
     → digests ≡ map (digest tree.salt) (cut count run) → AreRead tree k count first old digests
 run_read tree plan first old builder k count n now taken run digests so below size long lawful reaches read are i inside =
     let block : List ℕ = bytes_at run (4096 * i) 4096 in
@@ -192,13 +192,13 @@ next_shown tree image k block below is = is ∙ sym (bytes_within image tree.dat
 
 more_shown : (tree : TreePlan) (first : Option (List ℕ)) (old : List Made) (k : ℕ) (taken : List (List ℕ)) (block : List ℕ)
     → k < tree.blocks → IsBlockAt tree k first old block
-    → IfSome first (λ bytes. tree.data_at + 4096 * k ≤ length (shown (history_of bytes old))
-    → taken ≡ cut k (row_bytes tree (shown (history_of bytes old))))
-    → IfSome first (λ bytes. tree.data_at + 4096 * (k + 1) ≤ length (shown (history_of bytes old))
-    → taken ++ block ∷ [] ≡ cut (k + 1) (row_bytes tree (shown (history_of bytes old))))
+    → IfSome first (λ bytes. tree.data_at + 4096 * k ≤ length (held (history_of bytes old))
+    → taken ≡ cut k (row_bytes tree (held (history_of bytes old))))
+    → IfSome first (λ bytes. tree.data_at + 4096 * (k + 1) ≤ length (held (history_of bytes old))
+    → taken ++ block ∷ [] ≡ cut (k + 1) (row_bytes tree (held (history_of bytes old))))
 more_shown tree None old k taken block below is so = tt
 more_shown tree (Some bytes) old k taken block below is so = λ fits.
-    let image : List ℕ = shown (history_of bytes old) in
+    let image : List ℕ = held (history_of bytes old) in
     let row : List ℕ = row_bytes tree image in
     let before : taken ≡ cut k row = so (omega arith) in
     let here : block ≡ bytes_at row (4096 * k) 4096 = next_shown tree image k block below (is.shown fits) in
@@ -236,12 +236,12 @@ pub some_block : (tree : TreePlan) (k : ℕ) (first : Option (List ℕ)) (made :
     → (block : List ℕ) × IsBlockAt tree k first made block
 some_block tree k None made = (replicate 4096 0, record { size = length-replicate {A = ℕ} 4096 0; shown = tt })
 some_block tree k (Some bytes) made =
-    let piece : List ℕ = bytes_at (shown (history_of bytes made)) (tree.data_at + 4096 * k) 4096 in (
+    let piece : List ℕ = bytes_at (held (history_of bytes made)) (tree.data_at + 4096 * k) 4096 in (
       resized piece 4096,
       record {
         size = length-resized piece 4096;
         shown =
-            λ fits. resized_same piece 4096 (length-bytes_at (shown (history_of bytes made)) (tree.data_at + 4096 * k) 4096 (omega arith));
+            λ fits. resized_same piece 4096 (length-bytes_at (held (history_of bytes made)) (tree.data_at + 4096 * k) 4096 (omega arith));
       },
     )
 
@@ -281,8 +281,8 @@ RowOf tree first old front = (rest : List (List ℕ)) × AreBlocks tree.blocks (
 
 row_of : (tree : TreePlan) (first : Option (List ℕ)) (old : List Made) (k : ℕ) (front : List (List ℕ)) → k < tree.blocks
     → length front ≡ k + 1 → All IsBlock front
-    → IfSome first (λ bytes. tree.data_at + 4096 * (k + 1) ≤ length (shown (history_of bytes old))
-    → front ≡ cut (k + 1) (row_bytes tree (shown (history_of bytes old))))
+    → IfSome first (λ bytes. tree.data_at + 4096 * (k + 1) ≤ length (held (history_of bytes old))
+    → front ≡ cut (k + 1) (row_bytes tree (held (history_of bytes old))))
     → RowOf tree first old front
 row_of tree None old k front below count whole is = (
   rest_blocks tree k [],
@@ -293,7 +293,7 @@ row_of tree None old k front below count whole is = (
   tt,
 )
 row_of tree (Some bytes) old k front below count whole is =
-    let image : List ℕ = shown (history_of bytes old) in
+    let image : List ℕ = held (history_of bytes old) in
     let row : List ℕ = row_bytes tree image in (
       rest_blocks tree k row,
       record {
@@ -373,7 +373,7 @@ so_far_left tree first old builder mid new taken so made =
 
 -- where a disk tells, it has the data blocks that were taken
 unfoldable pub Reaches : TreePlan → ℕ → Option (List ℕ) → List Made → Type 0
-Reaches tree k first old = IfSome (history_told first old) (λ h. 1 ≤ k → tree.data_at + 4096 * k ≤ length (shown h))
+Reaches tree k first old = IfSome (history_told first old) (λ h. 1 ≤ k → tree.data_at + 4096 * k ≤ length (held h))
 
 pub reaches_none : (tree : TreePlan) (first : Option (List ℕ)) (old : List Made) → Reaches tree 0 first old
 unfolding Reaches
@@ -381,20 +381,20 @@ reaches_none tree None old = tt
 reaches_none tree (Some bytes) old = λ some. absurd (omega arith)
 
 pub reaches_more : (tree : TreePlan) (k : ℕ) (first : Option (List ℕ)) (old mid : List Made) → SameLength first old mid
-    → IfSome (history_told first mid) (λ h. tree.data_at + 4096 * k ≤ length (shown h)) → Reaches tree k first old
+    → IfSome (history_told first mid) (λ h. tree.data_at + 4096 * k ≤ length (held h)) → Reaches tree k first old
 unfolding Reaches SameLength
 reaches_more tree k None old mid same range = tt
 reaches_more tree k (Some bytes) old mid same range = λ some. omega arith
 
 -- it has those that were read
 pub reaches_run : (tree : TreePlan) (k count n m : ℕ) (first : Option (List ℕ)) (old mid : List Made) → SameLength first old mid
-    → n ≡ 4096 * count → m ≡ k + count → IfSome (history_told first mid) (λ h. tree.data_at + 4096 * k + n ≤ length (shown h))
+    → n ≡ 4096 * count → m ≡ k + count → IfSome (history_told first mid) (λ h. tree.data_at + 4096 * k + n ≤ length (held h))
     → Reaches tree m first old
 reaches_run tree k count n m first old mid same size all range =
     reaches_more tree m first old mid same (told_so (history_told first mid) _ _ (λ h fits. omega arith) range)
 
 pub reaches_all : (tree : TreePlan) (first : Option (List ℕ)) (old : List Made) → 1 ≤ tree.blocks → Reaches tree tree.blocks first old
-    → IfSome (history_told first old) (λ h. data_end tree ≤ length (shown h))
+    → IfSome (history_told first old) (λ h. data_end tree ≤ length (held h))
 unfolding Reaches
 reaches_all tree None old some reaches = tt
 reaches_all tree (Some bytes) old some reaches = reaches some

@@ -7,12 +7,12 @@ use Rattle.rp_base.specs.Image.{bytes_at}
 use Rattle.rp_disk.specs.declared.call.Call.{Call}
 use Rattle.rp_disk.specs.declared.call.Call.TheVariants.{Write, Sync, SetLen}
 use Rattle.rp_disk.specs.Calls.{all_done, is_write}
-use Rattle.rp_disk.specs.History.{History, Did, IsLawful, all_did, shown}
+use Rattle.rp_disk.specs.History.{History, Did, IsLawful, all_did, held}
 use Rattle.rp_disk.specs.Made.{Made, dones, history_of, history_told}
 use Rattle.rp_disk.specs.Ranges.{Apart, Inside}
 use Rattle.rp_disk.specs.Stops.{Each}
 use Rattle.rp_disk.proofs.Ranges.{bytes_at-all_done, length-all_done, length-done}
-use Rattle.rp_disk.proofs.Runs.{history_of-dones, shown-all_did}
+use Rattle.rp_disk.proofs.Runs.{history_of-dones, held-all_did}
 
 -- a call is a write
 abbrev pub IsWrite : Call → Type 0
@@ -24,34 +24,34 @@ lawful_before h (call ∷ calls) lawful = (lawful_before (Did h call) calls lawf
 
 -- writes that were done whole lay within the bytes shown at the start
 lawful_inside : (h : History) (calls : List Call) → Each IsWrite calls → IsLawful (all_did h calls)
-    → Each (Inside (length (shown h))) calls
+    → Each (Inside (length (held h))) calls
 lawful_inside h [] writes lawful = tt
 lawful_inside h (Write at bytes ∷ calls) writes lawful =
-    let here : at + length bytes ≤ length (shown h) = (lawful_before (Did h (Write at bytes)) calls lawful).1 in
+    let here : at + length bytes ≤ length (held h) = (lawful_before (Did h (Write at bytes)) calls lawful).1 in
     let P : ℕ → Type 0 = λ n. Each (Inside n) calls in
-    (here, subst P (length-done (Write at bytes) (shown h) here) (lawful_inside (Did h (Write at bytes)) calls writes.1 lawful))
+    (here, subst P (length-done (Write at bytes) (held h) here) (lawful_inside (Did h (Write at bytes)) calls writes.1 lawful))
 lawful_inside h (Sync ∷ calls) writes lawful = absurd (let no = writes.0 in cc)
 lawful_inside h (SetLen len ∷ calls) writes lawful = absurd (let no = writes.0 in cc)
 
 -- where a disk tells, its length is as it was
 unfoldable pub SameLength : Option (List ℕ) → List Made → List Made → Type 0
-SameLength first old new = IfSome first (λ bytes. length (shown (history_of bytes new)) ≡ length (shown (history_of bytes old)))
+SameLength first old new = IfSome first (λ bytes. length (held (history_of bytes new)) ≡ length (held (history_of bytes old)))
 
 -- where it tells, a range within its bytes is as it was
 unfoldable pub SameRange : ℕ → ℕ → Option (List ℕ) → List Made → List Made → Type 0
-SameRange at size first old new = IfSome first (λ bytes. at + size ≤ length (shown (history_of bytes old))
-    → bytes_at (shown (history_of bytes new)) at size ≡ bytes_at (shown (history_of bytes old)) at size)
+SameRange at size first old new = IfSome first (λ bytes. at + size ≤ length (held (history_of bytes old))
+    → bytes_at (held (history_of bytes new)) at size ≡ bytes_at (held (history_of bytes old)) at size)
 
 inside_told : (bytes : List ℕ) (old new : List Made) (calls : List Call) → new ≡ old ++ dones calls → Each IsWrite calls
-    → IsLawful (history_of bytes new) → Each (Inside (length (shown (history_of bytes old)))) calls
+    → IsLawful (history_of bytes new) → Each (Inside (length (held (history_of bytes old)))) calls
 inside_told bytes old new calls so writes lawful =
     lawful_inside (history_of bytes old) calls writes (subst IsLawful (ap (history_of bytes) so ∙ history_of-dones bytes old calls) lawful)
 
 shown_told : (bytes : List ℕ) (old new : List Made) (calls : List Call) → new ≡ old ++ dones calls
-    → shown (history_of bytes new) ≡ all_done (shown (history_of bytes old)) calls
+    → held (history_of bytes new) ≡ all_done (held (history_of bytes old)) calls
 shown_told bytes old new calls so =
-    ap (λ (l : List Made). shown (history_of bytes l)) so ∙ ap shown (history_of-dones bytes old calls)
-    ∙ shown-all_did (history_of bytes old) calls
+    ap (λ (l : List Made). held (history_of bytes l)) so ∙ ap held (history_of-dones bytes old calls)
+    ∙ held-all_did (history_of bytes old) calls
 
 pub same_length : (first : Option (List ℕ)) (old new : List Made) (calls : List Call) → new ≡ old ++ dones calls → Each IsWrite calls
     → IfSome (history_told first new) IsLawful → SameLength first old new
@@ -59,7 +59,7 @@ unfolding SameLength
 same_length None old new calls so writes lawful = tt
 same_length (Some bytes) old new calls so writes lawful =
     ap length (shown_told bytes old new calls so)
-    ∙ length-all_done calls (shown (history_of bytes old)) (length (shown (history_of bytes old))) refl
+    ∙ length-all_done calls (held (history_of bytes old)) (length (held (history_of bytes old))) refl
     (inside_told bytes old new calls so writes lawful)
 
 pub same_range : (at size : ℕ) (first : Option (List ℕ)) (old new : List Made) (calls : List Call) → new ≡ old ++ dones calls
@@ -69,29 +69,29 @@ unfolding SameRange
 same_range at size None old new calls so writes apart lawful = tt
 same_range at size (Some bytes) old new calls so writes apart lawful = λ fits.
     ap (λ (l : List ℕ). bytes_at l at size) (shown_told bytes old new calls so)
-    ∙ bytes_at-all_done at size calls (shown (history_of bytes old)) (length (shown (history_of bytes old))) refl fits
+    ∙ bytes_at-all_done at size calls (held (history_of bytes old)) (length (held (history_of bytes old))) refl fits
     (inside_told bytes old new calls so writes lawful) apart
 
 -- bytes that are read of such a range are as they were
 pub still_shown : (at size : ℕ) (first : Option (List ℕ)) (old new : List Made) (read : List ℕ) → SameLength first old new
-    → SameRange at size first old new → IfSome (history_told first new) (λ h. at + size ≤ length (shown h))
-    → IfSome (history_told first new) (λ h. read ≡ bytes_at (shown h) at size)
-    → IfSome (history_told first old) (λ h. read ≡ bytes_at (shown h) at size)
+    → SameRange at size first old new → IfSome (history_told first new) (λ h. at + size ≤ length (held h))
+    → IfSome (history_told first new) (λ h. read ≡ bytes_at (held h) at size)
+    → IfSome (history_told first old) (λ h. read ≡ bytes_at (held h) at size)
 unfolding SameLength SameRange
 still_shown at size None old new read same range reaches is = tt
 still_shown at size (Some bytes) old new read same range reaches is = is ∙ range (omega arith)
 
 -- where a disk tells, the count of its stray calls stays if its length is one of these
 unfoldable pub Stays : (ℕ → Type 0) → Option (List ℕ) → List Made → ℕ → ℕ → Type 0
-Stays P first made old new = IfSome (history_told first made) (λ h. P (length (shown h)) → new ≡ old)
+Stays P first made old new = IfSome (history_told first made) (λ h. P (length (held h)) → new ≡ old)
 
 pub stays_of : (P : ℕ → Type 0) (first : Option (List ℕ)) (made : List Made) (old new : ℕ)
-    → IfSome (history_told first made) (λ h. P (length (shown h)) → new ≡ old) → Stays P first made old new
+    → IfSome (history_told first made) (λ h. P (length (held h)) → new ≡ old) → Stays P first made old new
 unfolding Stays
 stays_of P first made old new said = said
 
 pub stays_says : (P : ℕ → Type 0) (first : Option (List ℕ)) (made : List Made) (old new : ℕ)
-    → Stays P first made old new → IfSome (history_told first made) (λ h. P (length (shown h)) → new ≡ old)
+    → Stays P first made old new → IfSome (history_told first made) (λ h. P (length (held h)) → new ≡ old)
 unfolding Stays
 stays_says P first made old new said = said
 
@@ -104,7 +104,7 @@ pub stays_weaker : (P Q : ℕ → Type 0) (first : Option (List ℕ)) (made : Li
     → Stays P first made old new → Stays Q first made old new
 unfolding Stays
 stays_weaker P Q None made old new weaker stays = tt
-stays_weaker P Q (Some bytes) made old new weaker stays = λ lies. stays (weaker (length (shown (history_of bytes made))) lies)
+stays_weaker P Q (Some bytes) made old new weaker stays = λ lies. stays (weaker (length (held (history_of bytes made))) lies)
 
 -- calls behind others that kept the length
 pub stays_more : (P : ℕ → Type 0) (first : Option (List ℕ)) (old mid : List Made) (before between now : ℕ) → SameLength first old mid
@@ -126,9 +126,9 @@ told_so (Some h) P Q so is = so h is
 
 -- one call
 pub stays_call : (P : ℕ → Type 0) (first : Option (List ℕ)) (made : List Made) (end old new : ℕ) → ((n : ℕ) → P n → end ≤ n)
-    → IfSome (history_told first made) (λ h. CountsStray (nat_lt (length (shown h)) end) old new) → Stays P first made old new
+    → IfSome (history_told first made) (λ h. CountsStray (nat_lt (length (held h)) end) old new) → Stays P first made old new
 unfolding Stays
 stays_call P None made end old new within counts = tt
 stays_call P (Some bytes) made end old new within counts = λ lies.
-    let fits : end ≤ length (shown (history_of bytes made)) = within (length (shown (history_of bytes made))) lies in
+    let fits : end ≤ length (held (history_of bytes made)) = within (length (held (history_of bytes made))) lies in
     counts.kept (grind (arith, nat_tests))

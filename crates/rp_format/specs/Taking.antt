@@ -3,7 +3,7 @@ use Rattle.std.specs.Prelude.{ℕ, ◌≡◌, ◌+◌, ◌*◌, ◌≤◌, List,
 use Rattle.rp_base.specs.Image.{bytes_at}
 use Rattle.rp_base.specs.Trees.{levels}
 use Rattle.rp_base.specs.declared.faults.Failed.{Failed}
-use Rattle.rp_disk.specs.History.{shown}
+use Rattle.rp_disk.specs.History.{held}
 use Rattle.rp_disk.specs.Made.{Made, dones, history_told}
 use Rattle.rp_disk.specs.Runs.{MadeFirst}
 use Rattle.rp_verity.specs.declared.builder.Builder.{Builder}
@@ -24,8 +24,8 @@ pub record IsAt (tree : TreePlan) (k : ℕ) (builder : Builder) : Type 0 where
 -- a data block of a disk
 pub record IsBlockAt (tree : TreePlan) (k : ℕ) (first : Option (List ℕ)) (made : List Made) (block : List ℕ) : Type 0 where
   pub size : length block ≡ 4096
-  pub shown : IfSome (history_told first made) (λ h. tree.data_at + 4096 * (k + 1) ≤ length (shown h)
-      → block ≡ bytes_at (shown h) (tree.data_at + 4096 * k) 4096)
+  pub shown : IfSome (history_told first made) (λ h. tree.data_at + 4096 * (k + 1) ≤ length (held h)
+      → block ≡ bytes_at (held h) (tree.data_at + 4096 * k) 4096)
 
 -- the hash blocks that are full with the last data block taken, whatever data blocks come still
 abbrev pub full_puts : TreePlan → List (List ℕ) → ℕ → List (ℕ × List ℕ)

@@ -5,7 +5,7 @@ use Rattle.rp_base.specs.Trees.{hash_blocks}
 use Rattle.rp_base.specs.declared.faults.Failed.{Failed}
 use Rattle.rp_disk.specs.declared.call.Call.{Call}
 use Rattle.rp_disk.specs.declared.call.Call.TheVariants.{Write}
-use Rattle.rp_disk.specs.History.{shown}
+use Rattle.rp_disk.specs.History.{held}
 use Rattle.rp_disk.specs.Made.{Made, dones, history_told}
 use Rattle.rp_disk.specs.Runs.{BrokeOff}
 use Rattle.rp_steps.specs.Calls.{tree_writes}
@@ -41,8 +41,8 @@ pub record AreBlocks (blocks : ℕ) (taken : List (List ℕ)) : Type 0 where
 
 -- where a disk tells its bytes, and they reach to the end of the data blocks, the data blocks are those that are shown
 abbrev pub AreShown : TreePlan → Option (List ℕ) → List Made → List (List ℕ) → Type 0
-AreShown tree first made taken = IfSome (history_told first made) (λ h. data_end tree ≤ length (shown h)
-    → taken ≡ cut tree.blocks (bytes_at (shown h) tree.data_at (4096 * tree.blocks)))
+AreShown tree first made taken = IfSome (history_told first made) (λ h. data_end tree ≤ length (held h)
+    → taken ≡ cut tree.blocks (bytes_at (held h) tree.data_at (4096 * tree.blocks)))
 
 -- the writes of the hash blocks, and that of the superblock behind them
 abbrev pub hash_calls : TreePlan → List (List ℕ) → List Call

@@ -2,7 +2,7 @@
 
 ghost use Rattle.std.specs.Prelude.{◌≡◌, ◌+◌, ◌*◌, ◌-◌, ◌^◌, ◌≤◌, [], length, Some, IfSome, OnOk};
 ghost use Rattle.rp_base.specs.Faults.{HasCause};
-ghost use Rattle.rp_disk.specs.History.{shown};
+ghost use Rattle.rp_disk.specs.History.{held};
 ghost use Rattle.rp_disk.specs.Made.{history_told};
 ghost use Rattle.rp_disk.specs.Runs.{Runs};
 ghost use Rattle.rp_format.specs.Puts.{EndBy, kept_puts, writes_of};
@@ -48,7 +48,7 @@ impl Waiting {
         requires ends { EndBy hash_at (2 ^ 64 - 1) (puts_of self.now) }
         ensures first { D.first disk.new ≡ D.first disk.old }
         ensures ran { Runs (D.calls disk.old) (writes_of hash_at (puts_of self.now)) (D.calls disk.new) result }
-        ensures strays { IfSome (history_told (D.first disk.old) (D.calls disk.old)) (λ h. EndBy hash_at (length (shown h)) (puts_of self.now)
+        ensures strays { IfSome (history_told (D.first disk.old) (D.calls disk.old)) (λ h. EndBy hash_at (length (held h)) (puts_of self.now)
             → D.strays disk.new ≡ D.strays disk.old) }
         ensures cause { HasCause (D.faults disk.old) (D.faults disk.new) result }
     {

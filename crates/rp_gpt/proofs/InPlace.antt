@@ -136,6 +136,16 @@ in_place-first units table is most placed = by_sector is where
   by_sector : IsSector table.sector → table.first < 2 ^ 64 - 1
   by_sector is = let last = placed.bounded.last in let first = placed.bounds in omega (arith, first, last, end table.sector is)
 
+-- a disk on which a table is in place has room for both copies
+pub in_place-room : (units : ℕ) (table : Table) → IsSector table.sector → IsInPlace units table
+    → least_sectors table.sector table.entries ≤ units / sector_units table.sector
+in_place-room units table is placed = room table.sector is placed.bounded.first placed.bounded.last where
+  room : (sector : ℕ) → IsSector sector → first_usable sector table.entries ≤ table.first
+      → table.last < usable_end sector table.entries (units / sector_units sector)
+      → least_sectors sector table.entries ≤ units / sector_units sector
+  room sector (inl e) = rw e (λ first last. let some = placed.bounds in omega (arith, first, last, some))
+  room sector (inr e) = rw e (λ first last. let some = placed.bounds in omega (arith, first, last, some))
+
 -- whole sectors in units of 512 bytes
 pub whole_units : (sector len : ℕ) → IsSector sector → len % sector ≡ 0 → (IsWhole sector (len / 512)) × (len ≡ 512 * (len / 512)) × (len ≡ sector * (len / sector))
 whole_units sector len (inl e) whole = let whole_is : len % 512 ≡ 0 = rw e at whole in rw e (omega arith, omega arith, omega arith)

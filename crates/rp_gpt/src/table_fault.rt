@@ -22,7 +22,7 @@ pub enum TableFault {
     TooShort { len: u64 },
     #[error("the array of entries stands in another place")]
     ArrayPlace,
-    #[error("{count} entries of {size} bytes in place of 128 of 128")]
+    #[error("{count} entries of {size} bytes")]
     EntryCount { count: u32, size: u32 },
     #[error("the first sector has a partition of type {kind} of another table")]
     OtherTable { kind: u8 },

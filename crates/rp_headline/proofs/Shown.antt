@@ -51,14 +51,6 @@ not_empty sector image empty seen table e shows_it =
 
 module _ (sector : ℕ) (old : List ℕ) (empty : Empty) (seen : Seen) (target : ℕ) (defs : List Definition) (facts : List Fact) (seed : Guid)
     (plan : Plan) (is : IsPlanned sector old empty seen target defs facts seed plan) where
-  bounds : plan.goal.first ≤ plan.goal.last
-  bounds =
-      let given = given_by sector old empty seen target defs facts seed plan is in
-      let made = made_of seen target defs facts seed plan is.goal_is in
-      let named = is_named seen target defs facts seed made.0 made.1 plan given made.2 in
-      let last = last_bounds seen target defs (matched_of seen.shown defs) given in
-      omega (arith, named.first, named.last, given.plannable.in_place.bounds, last.0)
-
   pub shows_goal : (body calls : List Call) → AreCallsOf seen plan body calls → ShowsGoal sector seen plan (all_done old calls)
   shows_goal body calls are =
       let fits = plan_for sector old empty seen target defs facts seed plan is in
@@ -66,7 +58,7 @@ module _ (sector : ℕ) (old : List ℕ) (empty : Empty) (seen : Seen) (target :
       let g = plan-given sector old empty seen plan fits in
       let taken : (then : Empty) → then ≢ Require → accepted sector (all_done old calls) then ≡ Ok (seen_after seen plan) = λ then other.
       subst (λ z. accepted z (all_done old calls) then ≡ Ok (seen_after seen plan)) of_sector
-      (accepted_after old seen plan g body calls are bounds then other) in record {
+      (accepted_after old seen plan g body calls are then other) in record {
         taken = taken;
         refused = not_empty sector (all_done old calls) Refuse (seen_after seen plan) plan.goal
             (taken Refuse (λ e. let f : Refuse ≡ Require = e in cc))

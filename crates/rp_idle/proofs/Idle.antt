@@ -40,7 +40,7 @@ use Rattle.rp_sizes.specs.Needs.{AreFactsOn, matched_of, wanted_of}
 use Rattle.rp_plan.specs.Goal.{goal, plan_with}
 use Rattle.rp_plan.specs.Plannable.{IsGiven, IsPlannable}
 use Rattle.rp_plan.proofs.Fitting.{goal_fits}
-use Rattle.rp_plan.proofs.Formed.{goal_bounded, goal_laid_out, goal_writable, is_named}
+use Rattle.rp_plan.proofs.Formed.{goal_in_place, goal_laid_out, goal_writable, is_named}
 use Rattle.rp_plan.proofs.Given.{last_bounds}
 use Rattle.rp_plan.proofs.Parts.{IsMadeOf, made_of}
 use Rattle.rp_idle.specs.Idle.{IsIdle, IsPlanned}
@@ -81,18 +81,6 @@ module _ (seen : Seen) (target : ℕ) (defs : List Definition) (facts : List Fac
   nothing_wanted : AreFactsOn (wanted_of plan.goal defs) []
   nothing_wanted = no_facts (wanted_of plan.goal defs)
       (no_needs (matched_of plan.goal defs) defs (old_again seen target defs facts seed made.0 made.1 plan given made.2 whole))
-
-  pub bounds : plan.goal.first ≤ plan.goal.last
-  bounds =
-      let named = is_named seen target defs facts seed made.0 made.1 plan given made.2 in
-      omega (
-        arith,
-        named.first,
-        named.last,
-        is_plannable.in_place.bounds,
-        (last_bounds seen target defs (matched_of seen.shown defs)
-            given).0,
-      )
 
   abbrev after : Seen
   after = seen_after seen plan
@@ -136,11 +124,7 @@ module _ (seen : Seen) (target : ℕ) (defs : List Definition) (facts : List Fac
     whole = whole_target.whole;
     most = whole_target.most;
     writable = goal_writable seen target defs facts seed made.0 made.1 plan given made.2;
-    in_place = record {
-      bounded = goal_bounded seen target defs facts seed made.0 made.1 plan given made.2;
-      bounds = bounds;
-      rows = goal_laid_out seen target defs facts seed made.0 made.1 plan given made.2;
-    };
+    in_place = goal_in_place seen target defs facts seed made.0 made.1 plan given made.2;
   })
 
   fits_again : Fits after next
@@ -184,7 +168,7 @@ module _ (sector : ℕ) (old : List ℕ) (empty : Empty) (seen : Seen) (target :
         plan = plan_with (seen_after seen plan) plan.target defs [] seed (pos (2 ^ 31 - 1)) plan.goal;
         shows = subst (λ z. accepted z (all_done old calls) Refuse ≡ Ok (seen_after seen plan))
             (plan-sector sector old empty seen plan plan_for)
-            (accepted_after old seen plan (plan-given sector old empty seen plan plan_for) body calls are low Refuse
+            (accepted_after old seen plan (plan-given sector old empty seen plan plan_for) body calls are Refuse
             (λ e. let f : Refuse ≡ Require = e in cc));
         matched = each_matched seen target defs facts seed plan ready aims is.definitions is.goal_is whole;
         goal_is = next_is seen target defs facts seed plan ready aims is.definitions is.goal_is whole;

@@ -7,7 +7,7 @@ use Rattle.std.proofs.lemmas.List.{get_or-map, length-map, map-append}
 use Rattle.std.proofs.lemmas.List.Elements.{All-append, All-cons, All-map}
 use Rattle.std.proofs.lemmas.List.Kept.{AllPairs-cons}
 use Rattle.rp_base.specs.Geometry.{IsSector, usable_end, sector_units}
-use Rattle.rp_base.specs.Table.{IsBounded, IsLaidOut, IsWhole, IsWritable, IsWritableRow}
+use Rattle.rp_base.specs.Table.{IsBounded, IsInPlace, IsLaidOut, IsWhole, IsWritable, IsWritableRow}
 use Rattle.rp_base.specs.declared.guid.Guid.{Guid}
 use Rattle.rp_base.specs.declared.plan.Note.{Note}
 use Rattle.rp_base.specs.declared.plan.Plan.{Plan}
@@ -180,11 +180,18 @@ module _ (seen : Seen) (target : ℕ) (defs : List Definition) (facts : List Fac
   end_some : 1 ≤ usable_end seen.shown.sector seen.shown.entries (target / sector_units seen.shown.sector)
   end_some = omega (arith, (has_room seen target defs own given).2)
 
-  pub goal_bounded : IsBounded target plan.goal
+  goal_bounded : IsBounded target plan.goal
   goal_bounded = record {
     first = rw (is_named.sector, is_named.entries, is_named.first) given.plannable.in_place.bounded.first;
     last = rw (is_named.sector, is_named.entries, is_named.last) (omega (arith, end_some));
   }
+
+  goal_bounds : plan.goal.first ≤ plan.goal.last
+  goal_bounds = rw (is_named.first, is_named.last)
+      (omega (arith, given.plannable.in_place.bounds, given.plannable.in_place.bounded.last, (has_room seen target defs own given).2))
+
+  pub goal_in_place : IsInPlace target plan.goal
+  goal_in_place = record { bounded = goal_bounded; bounds = goal_bounds; rows = goal_laid_out; }
 
   pub goal_writable : IsWritable plan.goal
   goal_writable = record {

@@ -10,7 +10,7 @@ use Rattle.std.proofs.lemmas.Option.{get_or_from_slice_get, slice_get_within}
 use Rattle.std.proofs.lemmas.Slice.Zip.{get_or-zip, length-zip}
 use Rattle.rp_base.specs.Answers.{Gives}
 use Rattle.rp_base.specs.Plan.{HasPartner, HoldsSource, IsPair, IsTarget, IsWellFormed, Noted, noted_of}
-use Rattle.rp_base.specs.Table.{IsBounded}
+use Rattle.rp_base.specs.Table.{IsInPlace}
 use Rattle.rp_base.specs.declared.guid.Guid.{Guid}
 use Rattle.rp_base.specs.declared.plan.Note.{Note}
 use Rattle.rp_base.specs.declared.plan.Plan.{Plan}
@@ -36,7 +36,7 @@ use Rattle.rp_plan.specs.Kept.{first_free, is_kept, kept_files, kept_of}
 use Rattle.rp_plan.specs.Notes.{new_note, old_note, role_of}
 use Rattle.rp_plan.specs.Plannable.{IsGiven, IsPlannable}
 use Rattle.rp_plan.specs.Rows.{row_again, row_for}
-use Rattle.rp_plan.proofs.Formed.{goal_bounded, goal_laid_out, goal_notes, goal_writable, is_named}
+use Rattle.rp_plan.proofs.Formed.{goal_in_place, goal_laid_out, goal_notes, goal_writable, is_named}
 use Rattle.rp_plan.proofs.Given.{no_row}
 use Rattle.rp_plan.proofs.KeptLemmas.{and_both, kept_entries}
 use Rattle.rp_plan.proofs.Listing.{through}
@@ -311,8 +311,7 @@ module _ (seen : Seen) (target : ℕ) (defs : List Definition) (facts : List Fac
         sector = named.sector;
         entries = named.entries;
         writable = goal_writable seen target defs facts seed areas placed plan given made;
-        bounded = subst (λ t. IsBounded t plan.goal) (sym same) (goal_bounded seen target defs facts seed areas placed plan given made);
-        rows = goal_laid_out seen target defs facts seed areas placed plan given made;
+        in_place = subst (λ t. IsInPlace t plan.goal) (sym same) (goal_in_place seen target defs facts seed areas placed plan given made);
         notes = goal_notes seen target defs facts seed areas placed plan given made;
         sources = all_hold;
         pairs = all_paired;

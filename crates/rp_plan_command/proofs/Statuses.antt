@@ -7,7 +7,7 @@ use Rattle.rp_defs.specs.declared.definition.Definition.{Definition}
 use Rattle.rp_defs.specs.declared.definition.Definitions.{Definitions}
 use Rattle.rp_demand.specs.declared.demand.Demand.{Demand}
 use Rattle.rp_demand.specs.declared.demand.Demand.TheVariants as demands
-use Rattle.rp_disk.specs.History.{shown}
+use Rattle.rp_disk.specs.History.{held}
 use Rattle.rp_io.specs.Files.{Tree}
 use Rattle.rp_io.specs.declared.stored.Stored.{Stored}
 use Rattle.rp_outcome.specs.Demands.{demand_refusal}
@@ -129,10 +129,10 @@ module _ (request : Request) (json : Bool) (dirs : List (List ℕ)) (folders rea
       (ap (λ (d : Device). d.faults) same) (inl is)
       (where_each folders.told (history disk) sources.told
       (λ tree. Settles folder_refusal (definitions_in request.arch tree dirs) (Err refusal)) (λ _. Unit {0}) (λ _. Unit {0})
-      (λ tree h files. told_plan request dirs tree (shown h) files ≡ Err refusal)
+      (λ tree h files. told_plan request dirs tree (held h) files ≡ Err refusal)
       (λ tree h files settles image none.
       ap (λ (d : Result Definitions Refusal). and_then d (λ definitions.
-      and_then (planned_of request definitions.list (shown h) files) (λ planned. Ok (definitions, planned))))
+      and_then (planned_of request definitions.list (held h) files) (λ planned. Ok (definitions, planned))))
       (settled_err folder_refusal refusal (definitions_in request.arch tree dirs) settles (inl is) (omega arith)))
       reads.settled (where_any (history disk)) (where_any sources.told))
       refuses
@@ -160,11 +160,11 @@ module _ (request : Request) (json : Bool) (dirs : List (List ℕ)) (folders rea
         (kept_err disk_refusal refusal disk.faults later.faults image.cause (λ e. not_refused refusal.status 7 (inr (inl is)) e (omega arith)))
         (inr (inl is))
         (where_each folders.told (history disk) sources.told (λ tree. definitions_in request.arch tree dirs ≡ Ok definitions)
-        (λ h. Settles disk_refusal (seen_of request.sector request.empty (shown h)) (Err refusal)) (λ _. Unit {0})
-        (λ tree h files. told_plan request dirs tree (shown h) files ≡ Err refusal)
-        (λ tree h files told settles none. plan_told request dirs tree (shown h) files definitions (Err refusal) told
-        (image_told request definitions.list (shown h) files (Err refusal)
-        (settled_err disk_refusal refusal (seen_of request.sector request.empty (shown h)) settles (inr (inl is)) (omega arith))))
+        (λ h. Settles disk_refusal (seen_of request.sector request.empty (held h)) (Err refusal)) (λ _. Unit {0})
+        (λ tree h files. told_plan request dirs tree (held h) files ≡ Err refusal)
+        (λ tree h files told settles none. plan_told request dirs tree (held h) files definitions (Err refusal) told
+        (image_told request definitions.list (held h) files (Err refusal)
+        (settled_err disk_refusal refusal (seen_of request.sector request.empty (held h)) settles (inr (inl is)) (omega arith))))
         listed image.settled (where_any sources.told))
         refuses
     by_image refusal image (inr (inl failed)) refuses =
@@ -181,10 +181,10 @@ module _ (request : Request) (json : Bool) (dirs : List (List ℕ)) (folders rea
       kept = kept_ok disk_refusal disk.faults later.faults seen image.cause
 
       -- what the image shows
-      sighted : IfSome (history disk) (λ h. seen_of request.sector request.empty (shown h) ≡ Ok seen)
-      sighted = where_one (history disk) (λ h. Settles disk_refusal (seen_of request.sector request.empty (shown h)) (Ok seen))
-          (λ h. seen_of request.sector request.empty (shown h) ≡ Ok seen)
-          (λ h settles. settled_ok disk_refusal (seen_of request.sector request.empty (shown h)) seen settles) image.settled
+      sighted : IfSome (history disk) (λ h. seen_of request.sector request.empty (held h) ≡ Ok seen)
+      sighted = where_one (history disk) (λ h. Settles disk_refusal (seen_of request.sector request.empty (held h)) (Ok seen))
+          (λ h. seen_of request.sector request.empty (held h) ≡ Ok seen)
+          (λ h settles. settled_ok disk_refusal (seen_of request.sector request.empty (held h)) seen settles) image.settled
 
       -- what is told of all, by what is told of the sources
       all_told : (b : Bool) → must_repair request.size seen ≡ b → (F : List Stored → Type 0) (answer : Result Planned Refusal)
@@ -192,10 +192,10 @@ module _ (request : Request) (json : Bool) (dirs : List (List ℕ)) (folders rea
           → Told request json dirs folders read disk later sources drained out after status (and_then answer (λ planned. Ok (definitions, planned)))
       all_told b repair F answer planned held =
           where_each folders.told (history disk) sources.told (λ tree. definitions_in request.arch tree dirs ≡ Ok definitions)
-          (λ h. seen_of request.sector request.empty (shown h) ≡ Ok seen) F
-          (λ tree h files. told_plan request dirs tree (shown h) files ≡ and_then answer (λ planned. Ok (definitions, planned)))
-          (λ tree h files told is f. plan_told request dirs tree (shown h) files definitions answer told
-          (image_told request definitions.list (shown h) files (Ok seen) is
+          (λ h. seen_of request.sector request.empty (held h) ≡ Ok seen) F
+          (λ tree h files. told_plan request dirs tree (held h) files ≡ and_then answer (λ planned. Ok (definitions, planned)))
+          (λ tree h files told is f. plan_told request dirs tree (held h) files definitions answer told
+          (image_told request definitions.list (held h) files (Ok seen) is
           ∙ ap (λ (b : Bool). planned_unless b request definitions.list files seen) repair ∙ planned files f))
           listed sighted held
 

@@ -1,7 +1,7 @@
 -- What is known of `plan` at each status.
 use Rattle.std.specs.Prelude.{ℕ, ◌≡◌, ◌⊎◌, List, Bool, IfSome, IsOkAnd, IsErrAnd, Result, Ok}
 use Rattle.rp_defs.specs.declared.definition.Definitions.{Definitions}
-use Rattle.rp_disk.specs.History.{shown}
+use Rattle.rp_disk.specs.History.{held}
 use Rattle.rp_io.specs.Files.{Tree}
 use Rattle.rp_io.specs.declared.stored.Stored.{Stored}
 use Rattle.rp_outcome.specs.Causes.{HasCauses}
@@ -28,7 +28,7 @@ told_plan request dirs tree image files =
 -- where folders, disk and sources tell, this holds of what they tell
 abbrev pub WhereTold : Store Tree → Device → Store (List Stored) → (Tree → List ℕ → List Stored → Type 0) → Type 0
 WhereTold folders disk sources P =
-    IfSome folders.told (λ tree. IfSome (history disk) (λ h. IfSome sources.told (λ files. P tree (shown h) files)))
+    IfSome folders.told (λ tree. IfSome (history disk) (λ h. IfSome sources.told (λ files. P tree (held h) files)))
 
 -- a status of a refusal
 abbrev pub IsRefused : ℕ → Type 0

@@ -9,7 +9,7 @@ use Rattle.rp_base.specs.declared.table.Table.{Table}
 use Rattle.rp_defs.specs.declared.definition.Definition.{Definition}
 use Rattle.rp_demand.specs.declared.demand.Demand.{Demand}
 use Rattle.rp_demand.specs.declared.demand.Demand.TheVariants as demands
-use Rattle.rp_disk.specs.History.{History, shown}
+use Rattle.rp_disk.specs.History.{History, held}
 use Rattle.rp_gpt.specs.Accepted.{IsSeen}
 use Rattle.rp_gpt.specs.Shown.{accepted}
 use Rattle.rp_gpt.specs.declared.table_fault.Empty.{Empty}
@@ -50,8 +50,8 @@ status_of (faults.Overlap a b) = inr (inr refl)
 status_of faults.Memory = inr (inl refl)
 
 settled_image : (sector : ℕ) (empty : Empty) (told : Option History) (result : Result Seen TableFault)
-    → IfSome told (λ h. (result ≡ Err faults.Disk) ⊎ Gives faults.Memory (accepted sector (shown h) empty) result)
-    → IfSome told (λ h. Settles disk_refusal (seen_of sector empty (shown h)) (refused table_refusal result))
+    → IfSome told (λ h. (result ≡ Err faults.Disk) ⊎ Gives faults.Memory (accepted sector (held h) empty) result)
+    → IfSome told (λ h. Settles disk_refusal (seen_of sector empty (held h)) (refused table_refusal result))
 settled_image sector empty None result answer = tt
 settled_image sector empty (Some h) result (inl failed) = inr (inl (ap (refused table_refusal) failed))
 settled_image sector empty (Some h) result (inr (inl same)) = inl (ap (refused table_refusal) same)
@@ -81,7 +81,7 @@ kept_image before now result (inr same) = inr same
 -- the image was refused
 pub image_refused : (sector : ℕ) (empty : Empty) (before now : Device) (fault : TableFault) → IsOnlyRead before now
     → IfSome (history before) (λ h. (◌≡◌ {A = Result Seen TableFault} (Err fault) (Err faults.Disk))
-    ⊎ Gives faults.Memory (accepted sector (shown h) empty) (Err fault))
+    ⊎ Gives faults.Memory (accepted sector (held h) empty) (Err fault))
     → (◌≡◌ {A = Result Seen TableFault} (Err fault) (Err faults.Disk) → Rose before.faults now.faults)
     → (◌≡◌ {A = Result Seen TableFault} (Err fault) (Err faults.Disk)) ⊎ (now.faults ≡ before.faults)
     → ReadsImage sector empty before now (Err (table_refusal fault))
@@ -96,7 +96,7 @@ image_refused sector empty before now fault only_read answer rose kept = record 
 -- the image was seen
 pub image_seen : (sector : ℕ) (empty : Empty) (before now : Device) (seen : Seen) → IsOnlyRead before now
     → IfSome (history before) (λ h. (◌≡◌ {A = Result Seen TableFault} (Ok seen) (Err faults.Disk))
-    ⊎ Gives faults.Memory (accepted sector (shown h) empty) (Ok seen))
+    ⊎ Gives faults.Memory (accepted sector (held h) empty) (Ok seen))
     → (◌≡◌ {A = Result Seen TableFault} (Ok seen) (Err faults.Disk)) ⊎ (now.faults ≡ before.faults) → IsSeen sector seen
     → ReadsImage sector empty before now (Ok seen)
 image_seen sector empty before now seen only_read answer kept is = record {
@@ -133,7 +133,7 @@ module _ (request : Request) (list : List Definition) (before now : Device) (sou
   -- nothing is planned for an image that is refused
   pub image_err : (fault : TableFault) → IsOnlyRead before now
       → IfSome (history before) (λ h. (◌≡◌ {A = Result Seen TableFault} (Err fault) (Err faults.Disk))
-      ⊎ Gives faults.Memory (accepted request.sector (shown h) request.empty) (Err fault))
+      ⊎ Gives faults.Memory (accepted request.sector (held h) request.empty) (Err fault))
       → (◌≡◌ {A = Result Seen TableFault} (Err fault) (Err faults.Disk) → Rose before.faults now.faults)
       → (◌≡◌ {A = Result Seen TableFault} (Err fault) (Err faults.Disk)) ⊎ (now.faults ≡ before.faults)
       → PlansImage request list before now sources sources (Err (table_refusal fault))
@@ -143,7 +143,7 @@ module _ (request : Request) (list : List Definition) (before now : Device) (sou
   -- what is planned for an image that was seen
   pub image_ok : (seen : Seen) (answer : Result Planned Refusal) → IsOnlyRead before now
       → IfSome (history before) (λ h. (◌≡◌ {A = Result Seen TableFault} (Ok seen) (Err faults.Disk))
-      ⊎ Gives faults.Memory (accepted request.sector (shown h) request.empty) (Ok seen))
+      ⊎ Gives faults.Memory (accepted request.sector (held h) request.empty) (Ok seen))
       → (◌≡◌ {A = Result Seen TableFault} (Ok seen) (Err faults.Disk)) ⊎ (now.faults ≡ before.faults) → IsSeen request.sector seen
       → PlansUnless (must_repair request.size seen) request list seen sources drained answer
       → PlansImage request list before now sources drained answer

@@ -6,7 +6,7 @@ use Rattle.rp_base.specs.declared.seen.Origin.TheVariants.{Primary, Backup, Neit
 use Rattle.rp_base.specs.declared.seen.Seen.{Seen}
 use Rattle.rp_base.specs.declared.table.Table.{Table}
 use Rattle.rp_defs.specs.declared.definition.Definition.{Definition}
-use Rattle.rp_disk.specs.History.{shown}
+use Rattle.rp_disk.specs.History.{held}
 use Rattle.rp_facts.specs.Sourced.{IsMissing}
 use Rattle.rp_gpt.specs.Accepted.{IsSeen}
 use Rattle.rp_gpt.specs.Shown.{accepted}
@@ -79,7 +79,7 @@ IsImageRefusal refusal = (refusal.status ≡ exit.image) ⊎ (refusal ≡ disk_r
 -- the image on a disk was read, and nothing else was asked of the disk
 pub record ReadsImage (sector : ℕ) (empty : Empty) (before now : Device) (answer : Result Seen Refusal) : Type 0 where
   pub only_read : IsOnlyRead before now
-  pub settled : IfSome (history before) (λ h. Settles disk_refusal (seen_of sector empty (shown h)) answer)
+  pub settled : IfSome (history before) (λ h. Settles disk_refusal (seen_of sector empty (held h)) answer)
   pub seen : IfOk answer (IsSeen sector)
   pub refusal : IfErr answer IsImageRefusal
   pub cause : HasStageCause disk_refusal before.faults now.faults answer

@@ -3,7 +3,7 @@ use Rattle.std.proofs.Common.{ℕ, ◌≡◌, ◌⊎◌, Bool, Option, Some, Non
 use Rattle.std.specs.Prelude.{IsOkAnd, IsErrAnd}
 use Rattle.rp_base.specs.Answers.{Gives}
 use Rattle.rp_base.specs.declared.seen.Seen.{Seen}
-use Rattle.rp_disk.specs.History.{History, shown}
+use Rattle.rp_disk.specs.History.{History, held}
 use Rattle.rp_gpt.specs.Shown.{accepted}
 use Rattle.rp_gpt.specs.declared.table_fault.Empty.TheVariants.{Refuse}
 use Rattle.rp_gpt.specs.declared.table_fault.TableFault.{TableFault}
@@ -16,7 +16,7 @@ use Rattle.rp_show.specs.Shows.{ByStatus, Reads, Shows, Tells}
 
 -- the answer is the definition's, but for a failure of the disk and want of memory
 abbrev IsAnswer : ℕ → Result Seen TableFault → History → Type 0
-IsAnswer sector answer h = (answer ≡ Err faults.Disk) ⊎ Gives faults.Memory (accepted sector (shown h) Refuse) answer
+IsAnswer sector answer h = (answer ≡ Err faults.Disk) ⊎ Gives faults.Memory (accepted sector (held h) Refuse) answer
 
 -- the disk failed, or its count is as before
 abbrev FailedOrKept : Device → Device → Result Seen TableFault → Type 0
@@ -40,7 +40,7 @@ fault_status faults.Memory = inr (inr refl)
 -- an image whose table was read is accepted so
 accepted_ok : (o : Option History) (sector : ℕ) (seen : Seen) (P : Seen → Type 0)
     → IfSome o (IsAnswer sector (Ok seen))
-    → P seen → IfSome o (λ h. IsOkAnd (accepted sector (shown h) Refuse) P)
+    → P seen → IfSome o (λ h. IsOkAnd (accepted sector (held h) Refuse) P)
 accepted_ok None sector seen P answer p = tt
 accepted_ok (Some h) sector seen P (inl e) p = absurd (cc)
 accepted_ok (Some h) sector seen P (inr (inl e)) p = subst (λ (answer : Result Seen TableFault). IsOkAnd answer P) e p
@@ -49,7 +49,7 @@ accepted_ok (Some h) sector seen P (inr (inr e)) p = absurd (cc)
 -- an image that was refused isn't accepted, for that reason
 accepted_err : (o : Option History) (sector : ℕ) (fault : TableFault) (P : TableFault → Type 0) → (table_refusal fault).status ≡ 4
     → IfSome o (IsAnswer sector (Err fault))
-    → P fault → IfSome o (λ h. IsErrAnd (accepted sector (shown h) Refuse) P)
+    → P fault → IfSome o (λ h. IsErrAnd (accepted sector (held h) Refuse) P)
 accepted_err None sector fault P status answer p = tt
 accepted_err (Some h) sector fault P status (inl e) p = absurd (other fault (same fault faults.Disk e) status) where
   same : (a b : TableFault) → ◌≡◌ {A = Result Seen TableFault} (Err a) (Err b) → a ≡ b

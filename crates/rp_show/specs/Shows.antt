@@ -3,7 +3,7 @@ use Rattle.std.specs.Prelude.{ℕ, ◌≡◌, ◌⊎◌, Bool, Result, Ok, Err, 
 use Rattle.rp_base.specs.Answers.{Gives}
 use Rattle.rp_base.specs.Faults.{Rose}
 use Rattle.rp_base.specs.declared.seen.Seen.{Seen}
-use Rattle.rp_disk.specs.History.{shown}
+use Rattle.rp_disk.specs.History.{held}
 use Rattle.rp_gpt.specs.Shown.{accepted}
 use Rattle.rp_gpt.specs.declared.table_fault.Empty.TheVariants.{Refuse}
 use Rattle.rp_gpt.specs.declared.table_fault.TableFault.{TableFault}
@@ -19,7 +19,7 @@ use Rattle.rp_outcome.specs.Device.{Device, IsOnlyRead, history}
 -- which it counted, and want of memory
 pub record Reads (sector : ℕ) (before now : Device) (answer : Result Seen TableFault) : Type 0 where
   pub only_read : IsOnlyRead before now
-  pub accepted : IfSome (history before) (λ h. (answer ≡ Err faults.Disk) ⊎ Gives faults.Memory (accepted sector (shown h) Refuse) answer)
+  pub accepted : IfSome (history before) (λ h. (answer ≡ Err faults.Disk) ⊎ Gives faults.Memory (accepted sector (held h) Refuse) answer)
   pub failed : answer ≡ Err faults.Disk → Rose before.faults now.faults
   pub kept : (answer ≡ Err faults.Disk) ⊎ (now.faults ≡ before.faults)
 
@@ -40,9 +40,9 @@ pub record ByStatus (sector : ℕ) (json : Bool) (disk later : Device) (out afte
   pub causes : HasCauses disk later out after status
   pub one_of : (status ≡ exit.done) ⊎ (status ≡ exit.image) ⊎ (status ≡ exit.disk) ⊎ (status ≡ exit.sink) ⊎ (status ≡ exit.memory)
   pub done : status ≡ exit.done → IfSome (history disk) (λ h.
-      IsOkAnd (accepted sector (shown h) Refuse) (λ seen. PrintsAll out after (show_report json seen)))
+      IsOkAnd (accepted sector (held h) Refuse) (λ seen. PrintsAll out after (show_report json seen)))
   pub cut : status ≡ exit.sink → IfSome (history disk) (λ h.
-      IsOkAnd (accepted sector (shown h) Refuse) (λ seen. PrintsPart out after (show_report json seen)))
+      IsOkAnd (accepted sector (held h) Refuse) (λ seen. PrintsPart out after (show_report json seen)))
   pub refused : status ≡ exit.image → IfSome (history disk) (λ h.
-      IsErrAnd (accepted sector (shown h) Refuse) (λ fault. Prints out after (line_of (table_refusal fault))))
+      IsErrAnd (accepted sector (held h) Refuse) (λ fault. Prints out after (line_of (table_refusal fault))))
   pub disk_line : status ≡ exit.disk → Prints out after (line_of disk_refusal)

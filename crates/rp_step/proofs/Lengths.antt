@@ -7,13 +7,13 @@ use Rattle.rp_base.specs.Image.{bytes_at}
 use Rattle.rp_base.specs.declared.geometry.Which.TheVariants.{Primary, Backup}
 use Rattle.rp_base.specs.declared.plan.Plan.{Plan}
 use Rattle.rp_disk.specs.Calls.{all_done}
-use Rattle.rp_disk.specs.History.{IsLawful, shown}
+use Rattle.rp_disk.specs.History.{IsLawful, held}
 use Rattle.rp_disk.specs.Made.{Made, dones, history_of, history_told}
 use Rattle.rp_disk.specs.Stops.{Each}
 use Rattle.rp_disk.specs.declared.call.Call.{Call}
 use Rattle.rp_disk.specs.declared.call.Call.TheVariants.{Write, SetLen, Sync as SyncCall}
 use Rattle.rp_disk.proofs.Agreeing.{length-resized}
-use Rattle.rp_disk.proofs.Runs.{history_of-dones, shown-all_did}
+use Rattle.rp_disk.proofs.Runs.{history_of-dones, held-all_did}
 use Rattle.rp_format.specs.Written.{tree_calls}
 use Rattle.rp_format.proofs.Kept.{writes-are}
 use Rattle.rp_format.proofs.Told.{IsWrite, SameLength, same_length}
@@ -44,23 +44,23 @@ tree-are hash_at blocks tree = writes-are hash_at (placed tree (order blocks))
 
 -- writes keep the length
 kept : (first : List ℕ) (old new : List Made) (calls : List Call) → new ≡ old ++ dones calls → Each IsWrite calls
-    → IfSome (history_told (Some first) new) IsLawful → length (shown (history_of first new)) ≡ length (shown (history_of first old))
+    → IfSome (history_told (Some first) new) IsLawful → length (held (history_of first new)) ≡ length (held (history_of first old))
 unfolding SameLength
 kept first old new calls done writes lawful = same_length (Some first) old new calls done writes lawful
 
 now_shown : (first : List ℕ) (old new : List Made) (calls : List Call) → new ≡ old ++ dones calls
-    → shown (history_of first new) ≡ all_done (shown (history_of first old)) calls
+    → held (history_of first new) ≡ all_done (held (history_of first old)) calls
 now_shown first old new calls done =
-    ap (λ (l : List Made). shown (history_of first l)) done ∙ ap shown (history_of-dones first old calls)
-    ∙ shown-all_did (history_of first old) calls
+    ap (λ (l : List Made). held (history_of first l)) done ∙ ap held (history_of-dones first old calls)
+    ∙ held-all_did (history_of first old) calls
 
 pub length_after : (plan : Plan) (found : Found) (step : Step) (first : List ℕ) (old new : List Made)
     → new ≡ old ++ dones (calls_with plan found step)
     → IfSome (history_told (Some first) new) IsLawful
-    → length (shown (history_of first new)) ≡ size_after (length (shown (history_of first old))) step
+    → length (held (history_of first new)) ≡ size_after (length (held (history_of first old))) step
 unfolding calls_with calls_of
 length_after plan found (Grow len) first old new done lawful =
-    ap length (now_shown first old new (SetLen len ∷ []) done) ∙ length-resized (shown (history_of first old)) len
+    ap length (now_shown first old new (SetLen len ∷ []) done) ∙ length-resized (held (history_of first old)) len
 length_after plan found Sync first old new done lawful = ap length (now_shown first old new (SyncCall ∷ []) done)
 length_after plan found (Zero at len) first old new done lawful =
     kept first old new (in_pieces at (replicate len 0)) done (pieces-are at (replicate len 0)) lawful
@@ -80,8 +80,8 @@ length_after plan found Mbr first old new done lawful = kept first old new (mbr_
 
 -- no call of the steps so far passed the disk's end, where all lie in it; and the steps that are left do
 unfoldable pub LieSoFar : Plan → Option (List ℕ) → List Step → List Step → List Made → List Made → ℕ → ℕ → Type 0
-LieSoFar plan first steps left old now before strays = IfSome first (λ bytes. AllLieIn plan (length (shown (history_of bytes old))) steps
-    → (strays ≡ before) × AllLieIn plan (length (shown (history_of bytes now))) left)
+LieSoFar plan first steps left old now before strays = IfSome first (λ bytes. AllLieIn plan (length (held (history_of bytes old))) steps
+    → (strays ≡ before) × AllLieIn plan (length (held (history_of bytes now))) left)
 
 pub lie_none : (plan : Plan) (first : Option (List ℕ)) (steps : List Step) (old : List Made) (before : ℕ)
     → LieSoFar plan first steps steps old old before before
@@ -93,7 +93,7 @@ pub lie_more : (plan : Plan) (first : Option (List ℕ)) (found : Found) (steps 
     (before then strays : ℕ)
     → LieSoFar plan first steps (step ∷ left) old mid before then → now ≡ mid ++ dones (calls_with plan found step)
     → IfSome (history_told first now) IsLawful
-    → IfSome (history_told first mid) (λ h. LiesIn plan (length (shown h)) step → strays ≡ then)
+    → IfSome (history_told first mid) (λ h. LiesIn plan (length (held h)) step → strays ≡ then)
     → LieSoFar plan first steps left old now before strays
 unfolding LieSoFar
 lie_more plan None found steps left step old mid now before then strays so done lawful stays = tt
@@ -105,7 +105,7 @@ lie_more plan (Some bytes) found steps left step old mid now before then strays 
 -- at the end, and at a fault
 pub lie_all : (plan : Plan) (first : Option (List ℕ)) (steps left : List Step) (old now : List Made) (before strays : ℕ)
     → LieSoFar plan first steps left old now before strays
-    → IfSome (history_told first old) (λ h. AllLieIn plan (length (shown h)) steps → strays ≡ before)
+    → IfSome (history_told first old) (λ h. AllLieIn plan (length (held h)) steps → strays ≡ before)
 unfolding LieSoFar
 lie_all plan None steps left old now before strays so = tt
 lie_all plan (Some bytes) steps left old now before strays so = λ lies. (so lies).0
@@ -113,8 +113,8 @@ lie_all plan (Some bytes) steps left old now before strays so = λ lies. (so lie
 pub lie_broke : (plan : Plan) (first : Option (List ℕ)) (steps left : List Step) (step : Step) (old mid : List Made)
     (before then strays : ℕ)
     → LieSoFar plan first steps (step ∷ left) old mid before then
-    → IfSome (history_told first mid) (λ h. LiesIn plan (length (shown h)) step → strays ≡ then)
-    → IfSome (history_told first old) (λ h. AllLieIn plan (length (shown h)) steps → strays ≡ before)
+    → IfSome (history_told first mid) (λ h. LiesIn plan (length (held h)) step → strays ≡ then)
+    → IfSome (history_told first old) (λ h. AllLieIn plan (length (held h)) steps → strays ≡ before)
 unfolding LieSoFar
 lie_broke plan None steps left step old mid before then strays so stays = tt
 lie_broke plan (Some bytes) steps left step old mid before then strays so stays = λ lies. let all = so lies in stays all.1.0 ∙ all.0
@@ -125,7 +125,7 @@ pub lie_at : {T : Type 0} (plan : Plan) (outside : Outside) (first : Option (Lis
     (old mid now : List Made) (before then strays : ℕ) (value : T) → i < length steps
     → LieSoFar plan first steps (drop i steps) old mid before then
     → MakesStep {T = T} plan outside (get_or steps i d) found mid now (Ok value) → IfSome (history_told first now) IsLawful
-    → IfSome (history_told first mid) (λ h. LiesIn plan (length (shown h)) (get_or steps i d) → strays ≡ then)
+    → IfSome (history_told first mid) (λ h. LiesIn plan (length (held h)) (get_or steps i d) → strays ≡ then)
     → LieSoFar plan first steps (drop (i + 1) steps) old now before strays
 lie_at plan outside first found steps i d old mid now before then strays value below so makes lawful stays =
     lie_more plan first found steps (drop (i + 1) steps) (get_or steps i d) old mid now before then strays
@@ -136,8 +136,8 @@ pub lie_broken_at : {T : Type 0} (plan : Plan) (outside : Outside) (first : Opti
     (old mid now : List Made) (before then strays : ℕ) (fault : ApplyFault) → i < length steps
     → LieSoFar plan first steps (drop i steps) old mid before then
     → MakesStep {T = T} plan outside (get_or steps i d) found mid now (Err fault)
-    → IfSome (history_told first mid) (λ h. LiesIn plan (length (shown h)) (get_or steps i d) → strays ≡ then)
-    → IfSome (history_told first old) (λ h. AllLieIn plan (length (shown h)) steps → strays ≡ before)
+    → IfSome (history_told first mid) (λ h. LiesIn plan (length (held h)) (get_or steps i d) → strays ≡ then)
+    → IfSome (history_told first old) (λ h. AllLieIn plan (length (held h)) steps → strays ≡ before)
 lie_broken_at plan outside first found steps i d old mid now before then strays fault below so makes stays =
     lie_broke plan first steps (drop (i + 1) steps) (get_or steps i d) old mid before then strays
     (subst (λ (l : List Step). LieSoFar plan first steps l old mid before then) (drop_more steps i d below) so) stays

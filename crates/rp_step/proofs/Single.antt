@@ -6,7 +6,7 @@ use Rattle.std.proofs.lemmas.List.Elements.{All-cons, All-nil}
 use Rattle.std.proofs.lemmas.List.FromFn.{length-map-range_with_len}
 use Rattle.rp_base.specs.Image.{bytes_at}
 use Rattle.rp_disk.specs.Calls.{resized}
-use Rattle.rp_disk.specs.History.{shown}
+use Rattle.rp_disk.specs.History.{held}
 use Rattle.rp_disk.specs.Made.{Made, history_of}
 use Rattle.rp_disk.proofs.Agreeing.{length-resized}
 use Rattle.rp_disk.proofs.Ranges.{length-bytes_at}
@@ -57,12 +57,12 @@ some_blocks tree None made =
     let bytes : List ℕ = replicate (4096 * tree.blocks) 0 in
     (cut tree.blocks bytes, are_blocks tree.blocks bytes (length-replicate {A = ℕ} (4096 * tree.blocks) 0), tt)
 some_blocks tree (Some first) made =
-    let under = bytes_at (shown (history_of first made)) tree.data_at (4096 * tree.blocks) in
+    let under = bytes_at (held (history_of first made)) tree.data_at (4096 * tree.blocks) in
     let bytes = resized under (4096 * tree.blocks) in (
       cut tree.blocks bytes,
       are_blocks tree.blocks bytes (length-resized under (4096 * tree.blocks)),
       λ reaches. ap (cut tree.blocks) (resized-same under (4096 * tree.blocks)
-          (length-bytes_at (shown (history_of first made)) tree.data_at (4096 * tree.blocks) reaches)),
+          (length-bytes_at (held (history_of first made)) tree.data_at (4096 * tree.blocks) reaches)),
     )
 
 pub some_found : (outside : Outside) (made : List Made) (step : Step) → (found : Found) × IsFound outside made found step

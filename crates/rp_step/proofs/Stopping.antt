@@ -5,7 +5,7 @@ use Rattle.std.proofs.lemmas.List.Elements.{All-head, All-tail, All-weaker}
 use Rattle.rp_base.specs.Image.{bytes_at}
 use Rattle.rp_base.specs.Trees.{hash_blocks, levels}
 use Rattle.rp_base.specs.declared.plan.Plan.{Plan}
-use Rattle.rp_disk.specs.History.{History, Did, Failed, IsLawful, shown}
+use Rattle.rp_disk.specs.History.{History, Did, Failed, IsLawful, held}
 use Rattle.rp_disk.specs.Made.{Made, Done, Broke, after_made, dones, history_of, history_told}
 use Rattle.rp_disk.specs.Ranges.{Apart}
 use Rattle.rp_disk.specs.Stops.{Each}
@@ -102,18 +102,18 @@ data_apart tree taken plan are =
 module _ (plan : Plan) (outside : Outside) (first : List ℕ) (shows : outside.first ≡ Some first) where
   one : (found : Found) (step : Step) (planned copied : List ℕ) (made new : List Made) → IsFound outside made found step
       → CanMake outside.paths step
-      → LiesIn plan (length (shown (history_of first made))) step → IsLawful (history_of first new)
+      → LiesIn plan (length (held (history_of first made))) step → IsLawful (history_of first new)
       → HasOtherRoot found planned copied made new step
-      → ShowsOtherStep (shown (history_of first new)) planned copied step
+      → ShowsOtherStep (held (history_of first new)) planned copied step
   unfolding SameRange
   one found (Tree data_at hash_at blocks salt uuid root) planned copied made new is can lies lawful other =
       let tree = tree_of data_at hash_at blocks salt uuid root in
-      let P : Option (List ℕ) → Type 0 = λ f. IfSome (history_told f made) (λ h. data_end tree ≤ length (shown h)
-      → found.blocks ≡ cut blocks (bytes_at (shown h) data_at (4096 * blocks))) in
-      let taken : found.blocks ≡ cut blocks (bytes_at (shown (history_of first made)) data_at (4096 * blocks)) = subst P shows is.1
+      let P : Option (List ℕ) → Type 0 = λ f. IfSome (history_told f made) (λ h. data_end tree ≤ length (held h)
+      → found.blocks ≡ cut blocks (bytes_at (held h) data_at (4096 * blocks))) in
+      let taken : found.blocks ≡ cut blocks (bytes_at (held (history_of first made)) data_at (4096 * blocks)) = subst P shows is.1
       lies.0 in
-      let still : bytes_at (shown (history_of first new)) data_at (4096 * blocks)
-      ≡ bytes_at (shown (history_of first made)) data_at (4096 * blocks) =
+      let still : bytes_at (held (history_of first new)) data_at (4096 * blocks)
+      ≡ bytes_at (held (history_of first made)) data_at (4096 * blocks) =
       same_range data_at (4096 * blocks) (Some first) made new (hash_calls tree found.blocks) other.3
       (hashes-are tree found.blocks) (data_apart tree found.blocks can is.0) lawful lies.0 in
       (other.0, other.1 ∙ ap (root_hash salt) (taken ∙ ap (cut blocks) (sym still)), other.2)
@@ -131,8 +131,8 @@ module _ (plan : Plan) (outside : Outside) (first : List ℕ) (shows : outside.f
 
   pub stopped_shown : (founds : List Found) (steps : List Step) (planned copied : List ℕ) (made new : List Made)
       → AreFound plan outside made founds steps
-      → All (CanMake outside.paths) steps → AllLieIn plan (length (shown (history_of first made))) steps → IsLawful (history_of first new)
-      → StopsAtRoot plan founds planned copied made new steps → Any (ShowsOtherStep (shown (history_of first new)) planned copied) steps
+      → All (CanMake outside.paths) steps → AllLieIn plan (length (held (history_of first made))) steps → IsLawful (history_of first new)
+      → StopsAtRoot plan founds planned copied made new steps → Any (ShowsOtherStep (held (history_of first new)) planned copied) steps
   stopped_shown [] steps planned copied made new are can lies lawful stops = absurd stops
   stopped_shown (found ∷ founds) [] planned copied made new are can lies lawful stops = absurd stops
   stopped_shown (found ∷ founds) (step ∷ steps) planned copied made new are can lies lawful (inl here) = (

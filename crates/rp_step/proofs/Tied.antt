@@ -4,11 +4,11 @@ use Rattle.std.specs.Prelude.{IfSome}
 use Rattle.rp_base.specs.Image.{bytes_at}
 use Rattle.rp_base.specs.declared.plan.Plan.{Plan}
 use Rattle.rp_disk.specs.Calls.{all_done, resized}
-use Rattle.rp_disk.specs.History.{shown}
+use Rattle.rp_disk.specs.History.{held}
 use Rattle.rp_disk.specs.Made.{Made, dones, history_of, history_told}
 use Rattle.rp_disk.specs.declared.call.Call.{Call}
 use Rattle.rp_disk.specs.declared.call.Call.TheVariants.{Write}
-use Rattle.rp_disk.proofs.Runs.{history_of-dones, shown-all_did}
+use Rattle.rp_disk.proofs.Runs.{history_of-dones, held-all_did}
 use Rattle.rp_fill.specs.Copied.{IsCopyOf, file_bytes}
 use Rattle.rp_io.specs.declared.stored.Stored.{Stored}
 use Rattle.rp_steps.specs.Calls.{calls_of, calls_of_steps, in_pieces, tree_writes}
@@ -48,18 +48,18 @@ module _ (plan : Plan) (outside : Outside) (files : List Stored) (first : List �
 
   -- the data blocks under a tree
   pub blocks_are : (made : List Made) (data_at hash_at blocks : ℕ) (salt : List ℕ) (taken : List (List ℕ))
-      → IfSome (history_told outside.first made) (λ h. data_at + 4096 * blocks ≤ length (shown h)
-      → taken ≡ cut blocks (bytes_at (shown h) data_at (4096 * blocks)))
-      → data_at + 4096 * blocks ≤ length (shown (history_of first made))
-      → cut blocks (bytes_at (shown (history_of first made)) data_at (4096 * blocks)) ≡ cut blocks (payload_at plan sources data_at)
+      → IfSome (history_told outside.first made) (λ h. data_at + 4096 * blocks ≤ length (held h)
+      → taken ≡ cut blocks (bytes_at (held h) data_at (4096 * blocks)))
+      → data_at + 4096 * blocks ≤ length (held (history_of first made))
+      → cut blocks (bytes_at (held (history_of first made)) data_at (4096 * blocks)) ≡ cut blocks (payload_at plan sources data_at)
       → taken ≡ cut blocks (payload_at plan sources data_at)
   blocks_are made data_at hash_at blocks salt taken are reaches laid =
-      let P : Option (List ℕ) → Type 0 = λ f. IfSome (history_told f made) (λ h. data_at + 4096 * blocks ≤ length (shown h)
-      → taken ≡ cut blocks (bytes_at (shown h) data_at (4096 * blocks))) in
+      let P : Option (List ℕ) → Type 0 = λ f. IfSome (history_told f made) (λ h. data_at + 4096 * blocks ≤ length (held h)
+      → taken ≡ cut blocks (bytes_at (held h) data_at (4096 * blocks))) in
       subst P shows are reaches ∙ laid
 
   pub tied : (made : List Made) (found : Found) (step : Step) → IsFound outside made found step
-      → IsLaid plan sources (shown (history_of first made)) step → calls_with plan found step ≡ calls_of plan sources step
+      → IsLaid plan sources (held (history_of first made)) step → calls_with plan found step ≡ calls_of plan sources step
   unfolding calls_with calls_of tree_over
   tied made found (Copy file at len) is laid =
       ap (in_pieces at) (copied_is outside.told files (path_at outside.paths file) len found.bytes told is)
@@ -79,19 +79,19 @@ module _ (plan : Plan) (outside : Outside) (files : List Stored) (first : List �
 
   -- the image on which a step was done
   pub shown_after : (made : List Made) (calls : List Call)
-      → shown (history_of first (made ++ dones calls)) ≡ all_done (shown (history_of first made)) calls
-  shown_after made calls = ap shown (history_of-dones first made calls) ∙ shown-all_did (history_of first made) calls
+      → held (history_of first (made ++ dones calls)) ≡ all_done (held (history_of first made)) calls
+  shown_after made calls = ap held (history_of-dones first made calls) ∙ held-all_did (history_of first made) calls
 
   pub all_tied : (made : List Made) (founds : List Found) (steps : List Step) → AreFound plan outside made founds steps
-      → AreLaid plan sources (shown (history_of first made)) steps → all_calls plan founds steps ≡ calls_of_steps plan sources steps
+      → AreLaid plan sources (held (history_of first made)) steps → all_calls plan founds steps ≡ calls_of_steps plan sources steps
   all_tied made [] [] are laid = refl
   all_tied made [] (step ∷ steps) are laid = absurd are
   all_tied made (found ∷ founds) [] are laid = absurd are
   all_tied made (found ∷ founds) (step ∷ steps) are laid =
       let here = tied made found step are.0 laid.0 in
-      let next : shown (history_of first (made ++ dones (calls_with plan found step)))
-      ≡ all_done (shown (history_of first made)) (calls_of plan sources step) =
-      shown_after made (calls_with plan found step) ∙ ap (all_done (shown (history_of first made))) here in
+      let next : held (history_of first (made ++ dones (calls_with plan found step)))
+      ≡ all_done (held (history_of first made)) (calls_of plan sources step) =
+      shown_after made (calls_with plan found step) ∙ ap (all_done (held (history_of first made))) here in
       ap₂ (λ (x y : List Call). x ++ y) here
       (all_tied (made ++ dones (calls_with plan found step)) founds steps are.1
       (subst (λ (image : List ℕ). AreLaid plan sources image steps) (sym next) laid.1))

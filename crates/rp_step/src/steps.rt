@@ -1,5 +1,5 @@
 ghost use Rattle.std.specs.Prelude.{◌≡◌, All, IfSome, length};
-ghost use Rattle.rp_disk.specs.History.{shown};
+ghost use Rattle.rp_disk.specs.History.{held};
 ghost use Rattle.rp_disk.specs.Made.{history_told};
 ghost use Rattle.rp_step.specs.Causes.{HasDiskCause, HasSourceCause};
 ghost use Rattle.rp_step.specs.Found.{CanMake, Found, HasFile, outside_of};
@@ -31,7 +31,7 @@ pub fn make_steps<D: Disk, S: Sources>(
     ensures told { S.told sources.new ≡ S.told sources.old }
     ensures made { (founds : List Found) × MakesSteps plan.now (outside_of (S.told sources.old) paths.now (D.first disk.old)) steps.now founds
         (D.calls disk.old) (D.calls disk.new) result }
-    ensures disk_strays { IfSome (history_told (D.first disk.old) (D.calls disk.old)) (λ h. AllLieIn plan.now (length (shown h)) steps.now → D.strays disk.new ≡ D.strays disk.old) }
+    ensures disk_strays { IfSome (history_told (D.first disk.old) (D.calls disk.old)) (λ h. AllLieIn plan.now (length (held h)) steps.now → D.strays disk.new ≡ D.strays disk.old) }
     ensures source_strays { IfSome (S.told sources.old) (λ files. All (HasFile files paths.now) steps.now → S.strays sources.new ≡ S.strays sources.old) }
     ensures disk_cause { HasDiskCause (D.faults disk.old) (D.faults disk.new) result }
     ensures source_cause { HasSourceCause (S.faults sources.old) (S.faults sources.new) result }

@@ -139,9 +139,9 @@ module _ (plan : Plan) (sources : Sources) where
         → from_byte (get_or (noted_of plan) j d).0 + byte_count (get_or (noted_of plan) j d).0 ≤ length image
     row_inside j d below =
         let here : j < length plan.goal.rows = omega (arith, length-noted_of seen plan formed) in
-        let bounds = formed.rows.in_bounds j d.0 here in
+        let bounds = formed.in_place.rows.in_bounds j d.0 here in
         let inside : (get_or plan.goal.rows j d.0).start + (get_or plan.goal.rows j d.0).size ≤ plan.target =
-        omega (arith, bounds.1, formed.bounded.last, usable_inside plan.goal.sector plan.goal.entries plan.target formed.writable.sector) in
+        omega (arith, bounds.1, formed.in_place.bounded.last, usable_inside plan.goal.sector plan.goal.entries plan.target formed.writable.sector) in
         subst (λ (row : Row). from_byte row + byte_count row ≤ length image) (sym (row_at j d below)) (omega (arith, long))
 
     abbrev value_of : Noted → ℕ → ℕ
@@ -183,7 +183,7 @@ module _ (plan : Plan) (sources : Sources) where
     rows_apart i j d before below =
         let here : j < length plan.goal.rows = omega (arith, length-noted_of seen plan formed) in
         subst (λ (row : Row). AreApart row (get_or (noted_of plan) j d).0) (sym (row_at i d (omega arith)))
-        (subst (λ (row : Row). AreApart (get_or plan.goal.rows i d.0) row) (sym (row_at j d below)) (formed.rows.apart i j d.0 before here))
+        (subst (λ (row : Row). AreApart (get_or plan.goal.rows i d.0) row) (sym (row_at j d below)) (formed.in_place.rows.apart i j d.0 before here))
 
     -- the calls put the contents' bytes into a row
     module _ (j : ℕ) (d : Noted) (below : j < length (noted_of plan)) (new : is_new_row (get_or (noted_of plan) j d) ≡ true) where

@@ -88,11 +88,11 @@ module _ (old : List ℕ) (seen : Seen) (plan : Plan) (g : Given old seen plan) 
   mbr_is mbrs.Same is = exact_mbr (λ e. let f : mbrs.Same ≡ mbrs.Foreign = sym is ∙ e in cc)
   mbr_is mbrs.Differs is = exact_mbr (λ e. let f : mbrs.Differs ≡ mbrs.Foreign = sym is ∙ e in cc)
 
-  pub accepted_after : plan.goal.first ≤ plan.goal.last → (empty : Empty) → empty ≢ Require
+  pub accepted_after : (empty : Empty) → empty ≢ Require
       → accepted plan.goal.sector (all_done old calls) empty ≡ Ok (seen_after seen plan)
-  accepted_after bounds empty other =
+  accepted_after empty other =
       let units : sectors_of 512 (all_done old calls) ≡ plan.target = ap (λ n. n / 512) (done old seen plan g body calls are).len
       ∙ omega arith in
-      exact-accepted (all_done old calls) plan.goal (holds_table old seen plan g body calls are bounds) g.fits.well_formed.writable
+      exact-accepted (all_done old calls) plan.goal (holds_table old seen plan g body calls are) g.fits.well_formed.writable
       (reads_back plan.goal g.fits.well_formed.writable g.table_fits) empty other
       ∙ ap₂ (as_seen plan) units (mbr_is seen.mbr refl)

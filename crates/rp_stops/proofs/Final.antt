@@ -231,9 +231,8 @@ module _ (old : List ℕ) (seen : Seen) (plan : Plan) (g : Given old seen plan) 
   unfolding shown
   shown_goal = ap (λ t. first_told t (told_at plan.goal.sector (all_done old calls) Backup)) (told_goal Primary)
 
-  -- a table with usable units is in place
-  pub holds_table : plan.goal.first ≤ plan.goal.last → HoldsTable (all_done old calls) plan.goal
-  holds_table bounds =
+  pub holds_table : HoldsTable (all_done old calls) plan.goal
+  holds_table =
       let long = (done).len in
       let few = g.fits.well_formed.target.most in
       let units : sectors_of 512 (all_done old calls) ≡ plan.target = ap (λ n. n / 512) (done).len ∙ omega arith in
@@ -243,8 +242,7 @@ module _ (old : List ℕ) (seen : Seen) (plan : Plan) (g : Given old seen plan) 
         whole = whole_sectors plan.goal.sector g.is_sector (all_done old calls) (target_sectors plan)
             ((done).len ∙ target_long old seen plan g);
         most = omega arith;
-        in_place = subst (λ n. IsInPlace n plan.goal) (sym units)
-            (record { bounded = g.fits.well_formed.bounded; bounds = bounds; rows = g.fits.well_formed.rows });
+        in_place = subst (λ n. IsInPlace n plan.goal) (sym units) g.fits.well_formed.in_place;
         places = λ which. opened_place old seen plan g (all_done old calls) (done).len which ((done).goals which)
             ∙ ap (λ n. exact plan.goal which n) (sym same);
       }

@@ -161,7 +161,7 @@ module _ (old : List ℕ) (seen : Seen) (plan : Plan) (g : Given old seen plan) 
   new_between noted inside =
       between plan.goal.entries
       (target_sectors plan) plan.goal.first plan.goal.last noted.0.start noted.0.size plan.goal.sector g.is_sector
-      g.fits.well_formed.bounded.first g.fits.well_formed.bounded.last inside.0 inside.1
+      g.fits.well_formed.in_place.bounded.first g.fits.well_formed.in_place.bounded.last inside.0 inside.1
 
   pub rows_between : All (λ (noted : Noted). (array_offset plan.goal.sector plan.goal.entries
       (target_sectors plan) Primary + plan.goal.sector * array_sectors plan.goal.sector plan.goal.entries ≤ 512 * noted.0.start)
@@ -170,7 +170,7 @@ module _ (old : List ℕ) (seen : Seen) (plan : Plan) (g : Given old seen plan) 
   rows_between k d lt =
       new_between (get_or (noted_of plan) k d)
       (All-rows (λ (row : Row). (plan.goal.first ≤ row.start)
-      × (row.start + row.size ≤ plan.goal.last + 1)) plan.goal.rows plan.notes g.fits.well_formed.rows.in_bounds k d lt)
+      × (row.start + row.size ≤ plan.goal.last + 1)) plan.goal.rows plan.notes g.fits.well_formed.in_place.rows.in_bounds k d lt)
 
   pub news_between : (at n : ℕ) → NewRange plan at n
       → (array_offset plan.goal.sector plan.goal.entries

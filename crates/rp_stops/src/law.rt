@@ -84,8 +84,8 @@ pub fn stops_of_two_plans()
         → StopsAlone sector old seen plan body image ⊎ StopsAlone sector (all_done old calls) next second other image }
 {}
 
-/// All calls, done whole, give the final image. Each of its places tells the goal, and the image shows it; where the goal has
-/// usable units, the image holds it as a table in place.
+/// All calls, done whole, give the final image. Each of its places tells the goal, and the image shows it and holds it as a
+/// table in place.
 pub fn finished_law()
     ensures final_image { (sector : ℕ) (old : List ℕ) (empty : Empty) (seen : Seen) (plan : Plan) (body calls : List Call) (contents : Contents)
         → IsPlanFor sector old empty seen plan → AreCallsOf seen plan body calls → Fills old plan contents body → IsFinal old seen plan contents (all_done old calls) }
@@ -94,14 +94,14 @@ pub fn finished_law()
     ensures shown { (sector : ℕ) (old : List ℕ) (empty : Empty) (seen : Seen) (plan : Plan) (body calls : List Call)
         → IsPlanFor sector old empty seen plan → AreCallsOf seen plan body calls → shown sector (all_done old calls) ≡ shows plan.goal }
     ensures table { (sector : ℕ) (old : List ℕ) (empty : Empty) (seen : Seen) (plan : Plan) (body calls : List Call)
-        → IsPlanFor sector old empty seen plan → AreCallsOf seen plan body calls → plan.goal.first ≤ plan.goal.last → HoldsTable (all_done old calls) plan.goal }
+        → IsPlanFor sector old empty seen plan → AreCallsOf seen plan body calls → HoldsTable (all_done old calls) plan.goal }
 {}
 
-/// Where the goal has usable units, the final image is accepted, as the goal by its primary, with both copies the same and a right
-/// MBR, unless that is of another table.
+/// The final image is accepted, as the goal by its primary, with both copies the same and a right MBR, unless that is of another
+/// table.
 pub fn finished_is_accepted()
     ensures { (sector : ℕ) (old : List ℕ) (empty then : Empty) (seen : Seen) (plan : Plan) (body calls : List Call)
-        → IsPlanFor sector old empty seen plan → AreCallsOf seen plan body calls → plan.goal.first ≤ plan.goal.last → then ≢ Empty.Require
+        → IsPlanFor sector old empty seen plan → AreCallsOf seen plan body calls → then ≢ Empty.Require
         → accepted sector (all_done old calls) then ≡ Ok (seen_after seen plan) }
 {}
 

@@ -8,7 +8,7 @@ use Rattle.rp_base.specs.Image.{bytes_at, sectors_of}
 use Rattle.rp_base.specs.declared.geometry.Which.{Which}
 use Rattle.rp_base.specs.declared.geometry.Which.TheVariants.{Primary, Backup}
 use Rattle.rp_base.specs.declared.seen.Seen.{Seen}
-use Rattle.rp_disk.specs.History.{History, shown}
+use Rattle.rp_disk.specs.History.{History, held}
 use Rattle.rp_disk.specs.Made.{Made, history_told}
 use Rattle.rp_gpt.specs.declared.table_fault.Empty.{Empty}
 use Rattle.rp_gpt.specs.declared.table_fault.TableFault.{TableFault}
@@ -54,12 +54,12 @@ copy_inside which sector sectors entries said size place count disk e size_is pl
     rw (size_is, place_is, count_is) (copy_end which sector entries sectors disk.size (may_have-room sector sectors entries (entries_may sector sectors entries said disk e)).1)
 
 -- reads within the image are no stray calls
-pub no_stray : (o : Option History) (len end before now : ℕ) → end ≤ len → IfSome o (λ h. end ≤ length (shown h) → now ≡ before) → IfSome o (λ h. length (shown h) ≡ len → now ≡ before)
-no_stray o len end before now inside kept = if_told o (λ h (k : end ≤ length (shown h) → now ≡ before) is. k (omega arith)) kept
+pub no_stray : (o : Option History) (len end before now : ℕ) → end ≤ len → IfSome o (λ h. end ≤ length (held h) → now ≡ before) → IfSome o (λ h. length (held h) ≡ len → now ≡ before)
+no_stray o len end before now inside kept = if_told o (λ h (k : end ≤ length (held h) → now ≡ before) is. k (omega arith)) kept
 
-pub no_more_strays : (o : Option History) (len first second third : ℕ) → IfSome o (λ h. length (shown h) ≡ len → second ≡ first) → IfSome o (λ h. length (shown h) ≡ len → third ≡ second)
-    → IfSome o (λ h. length (shown h) ≡ len → third ≡ first)
-no_more_strays o len first second third a b = with_told o (λ h (a : length (shown h) ≡ len → second ≡ first) (b : length (shown h) ≡ len → third ≡ second) is. b is ∙ a is) a b
+pub no_more_strays : (o : Option History) (len first second third : ℕ) → IfSome o (λ h. length (held h) ≡ len → second ≡ first) → IfSome o (λ h. length (held h) ≡ len → third ≡ second)
+    → IfSome o (λ h. length (held h) ≡ len → third ≡ first)
+no_more_strays o len first second third a b = with_told o (λ h (a : length (held h) ≡ len → second ≡ first) (b : length (held h) ≡ len → third ≡ second) is. b is ∙ a is) a b
 
 -- a place, by its header and its bytes
 pub place_made : (image : List ℕ) (which : Which) (sector sectors size header_at_place copy_at_place count said : ℕ) (header : List ℕ) (place : Place) → IsDisk sector sectors → length image ≡ sector * sectors
@@ -79,13 +79,13 @@ place_made image which sector sectors size header_at_place copy_at_place count s
       by_size sector (inr e) len = let len_is : length image ≡ 4096 * sectors = rw e at len in rw e (omega arith)
 
 pub place_told : (first again : Option (List ℕ)) (calls made : List Made) (which : Which) (sector sectors size header_at_place copy_at_place count said : ℕ) (header bytes : List ℕ) (place : Place) → again ≡ first → made ≡ calls
-    → IsDisk sector sectors → size ≡ sector → header_at_place ≡ header_place which sectors → IfSome (history_told first calls) (λ h. header ≡ bytes_at (shown h) (size * header_at_place) sector) → said ≡ entry_count header
+    → IsDisk sector sectors → size ≡ sector → header_at_place ≡ header_place which sectors → IfSome (history_told first calls) (λ h. header ≡ bytes_at (held h) (size * header_at_place) sector) → said ≡ entry_count header
     → place.entries ≡ entries_or_least sector sectors said → copy_at_place ≡ copy_place which sector place.entries sectors → count ≡ copy_bytes place.entries sector
-    → IfSome (history_told again made) (λ h. bytes ≡ bytes_at (shown h) (size * copy_at_place) count) → place.bytes ≡ bytes → IfSome (history_told first calls) (λ h. length (shown h) ≡ sector * sectors → IsPlaceOf sector (shown h) which place)
+    → IfSome (history_told again made) (λ h. bytes ≡ bytes_at (held h) (size * copy_at_place) count) → place.bytes ≡ bytes → IfSome (history_told first calls) (λ h. length (held h) ≡ sector * sectors → IsPlaceOf sector (held h) which place)
 place_told first again calls made which sector sectors size header_at_place copy_at_place count said header bytes place f m disk size_is header_is read said_is entries_is copy_is count_is more same =
-    with_told (history_told first calls) (λ h (read : header ≡ bytes_at (shown h) (size * header_at_place) sector) (more : bytes ≡ bytes_at (shown h) (size * copy_at_place) count) len.
-    place_made (shown h) which sector sectors size header_at_place copy_at_place count said header place disk len size_is header_is read said_is entries_is copy_is count_is (same ∙ more))
-    read (told_before (λ h. bytes ≡ bytes_at (shown h) (size * copy_at_place) count) first again calls made f m more)
+    with_told (history_told first calls) (λ h (read : header ≡ bytes_at (held h) (size * header_at_place) sector) (more : bytes ≡ bytes_at (held h) (size * copy_at_place) count) len.
+    place_made (held h) which sector sectors size header_at_place copy_at_place count said header place disk len size_is header_is read said_is entries_is copy_is count_is (same ∙ more))
+    read (told_before (λ h. bytes ≡ bytes_at (held h) (size * copy_at_place) count) first again calls made f m more)
 
 pub disk_holds : (sector sectors : ℕ) → IsDisk sector sectors → 512 ≤ sector * sectors
 disk_holds sector sectors disk = by_size sector disk.size disk.least where
@@ -96,18 +96,18 @@ disk_holds sector sectors disk = by_size sector disk.size disk.least where
 -- all the pieces
 pub pieces_told : (first second third : Option (List ℕ)) (calls made more : List Made) (bytes : List ℕ) (primary backup : Place) (pieces : Pieces) → second ≡ first → made ≡ calls → third ≡ first → more ≡ calls
     → pieces.first ≡ bytes → pieces.primary ≡ primary → pieces.backup ≡ backup
-    → IfSome (history_told first calls) (λ h. bytes ≡ bytes_at (shown h) 0 512)
-    → IfSome (history_told second made) (λ h. length (shown h) ≡ pieces.sector * pieces.sectors → IsPlaceOf pieces.sector (shown h) Primary primary)
-    → IfSome (history_told third more) (λ h. length (shown h) ≡ pieces.sector * pieces.sectors → IsPlaceOf pieces.sector (shown h) Backup backup)
-    → IfSome (history_told first calls) (λ h. length (shown h) ≡ pieces.sector * pieces.sectors → ArePieces (shown h) pieces)
+    → IfSome (history_told first calls) (λ h. bytes ≡ bytes_at (held h) 0 512)
+    → IfSome (history_told second made) (λ h. length (held h) ≡ pieces.sector * pieces.sectors → IsPlaceOf pieces.sector (held h) Primary primary)
+    → IfSome (history_told third more) (λ h. length (held h) ≡ pieces.sector * pieces.sectors → IsPlaceOf pieces.sector (held h) Backup backup)
+    → IfSome (history_told first calls) (λ h. length (held h) ≡ pieces.sector * pieces.sectors → ArePieces (held h) pieces)
 pieces_told first second third calls made more bytes primary backup pieces f m f2 m2 first_is primary_is backup_is a b c =
     let o = history_told first calls in
-    let len_of : History → Type 0 = λ h. length (shown h) ≡ pieces.sector * pieces.sectors in
-    with_told o (λ h (a : bytes ≡ bytes_at (shown h) 0 512) (bc : (length (shown h) ≡ pieces.sector * pieces.sectors → IsPlaceOf pieces.sector (shown h) Primary primary) × (length (shown h) ≡ pieces.sector * pieces.sectors → IsPlaceOf pieces.sector (shown h) Backup backup)) len.
+    let len_of : History → Type 0 = λ h. length (held h) ≡ pieces.sector * pieces.sectors in
+    with_told o (λ h (a : bytes ≡ bytes_at (held h) 0 512) (bc : (length (held h) ≡ pieces.sector * pieces.sectors → IsPlaceOf pieces.sector (held h) Primary primary) × (length (held h) ≡ pieces.sector * pieces.sectors → IsPlaceOf pieces.sector (held h) Backup backup)) len.
     record { len = len; first = first_is ∙ a; primary = rw primary_is (bc.0 len); backup = rw backup_is (bc.1 len) }) a
-    (with_told o (λ h (b : length (shown h) ≡ pieces.sector * pieces.sectors → IsPlaceOf pieces.sector (shown h) Primary primary) (c : length (shown h) ≡ pieces.sector * pieces.sectors → IsPlaceOf pieces.sector (shown h) Backup backup). (b, c))
-    (told_before (λ h. length (shown h) ≡ pieces.sector * pieces.sectors → IsPlaceOf pieces.sector (shown h) Primary primary) first second calls made f m b)
-    (told_before (λ h. length (shown h) ≡ pieces.sector * pieces.sectors → IsPlaceOf pieces.sector (shown h) Backup backup) first third calls more f2 m2 c))
+    (with_told o (λ h (b : length (held h) ≡ pieces.sector * pieces.sectors → IsPlaceOf pieces.sector (held h) Primary primary) (c : length (held h) ≡ pieces.sector * pieces.sectors → IsPlaceOf pieces.sector (held h) Backup backup). (b, c))
+    (told_before (λ h. length (held h) ≡ pieces.sector * pieces.sectors → IsPlaceOf pieces.sector (held h) Primary primary) first second calls made f m b)
+    (told_before (λ h. length (held h) ≡ pieces.sector * pieces.sectors → IsPlaceOf pieces.sector (held h) Backup backup) first third calls more f2 m2 c))
 
 -- an image by its length
 module _ (sector : ℕ) (image : List ℕ) (empty : Empty) (len : ℕ) (same : len ≡ length image) where
@@ -147,29 +147,29 @@ is_disk sector len is most room =
 
 -- a failure to read
 pub unread : (o : Option History) (sector : ℕ) (empty : Empty) (fault : TableFault) → (fault ≡ faults.Disk) ⊎ (fault ≡ faults.Memory)
-    → IfSome o (λ h. ◌≡◌ {A = Result Seen TableFault} (Err fault) (Err faults.Disk) ⊎ Gives faults.Memory (accepted sector (shown h) empty) (Err fault))
+    → IfSome o (λ h. ◌≡◌ {A = Result Seen TableFault} (Err fault) (Err faults.Disk) ⊎ Gives faults.Memory (accepted sector (held h) empty) (Err fault))
 unread None sector empty fault either = tt
 unread (Some h) sector empty fault (inl e) = inl (ap Err e)
 unread (Some h) sector empty fault (inr e) = inr (inr (ap Err e))
 
 -- the judgement of the pieces
 pub accepted_read : (first again : Option (List ℕ)) (calls made : List Made) (sector len : ℕ) (empty : Empty) (pieces : Pieces) (result : Result Seen TableFault) → again ≡ first → made ≡ calls → IsSector sector → len ≤ 2 ^ 44
-    → (len % sector == 0 && nat_le (least_sectors sector 128) (len / sector)) ≡ true → IfSome (history_told first calls) (λ h. len ≡ length (shown h))
-    → IfSome (history_told again made) (λ h. length (shown h) ≡ sector * (len / sector) → ArePieces (shown h) pieces) → pieces.sector ≡ sector
+    → (len % sector == 0 && nat_le (least_sectors sector 128) (len / sector)) ≡ true → IfSome (history_told first calls) (λ h. len ≡ length (held h))
+    → IfSome (history_told again made) (λ h. length (held h) ≡ sector * (len / sector) → ArePieces (held h) pieces) → pieces.sector ≡ sector
     → ((image : List ℕ) → ArePieces image pieces → Gives faults.Memory (accepted_as pieces.sector image empty (judged_by.shown pieces.sector image)) result)
-    → IfSome (history_told first calls) (λ h. (result ≡ Err faults.Disk) ⊎ Gives faults.Memory (accepted sector (shown h) empty) result)
+    → IfSome (history_told first calls) (λ h. (result ≡ Err faults.Disk) ⊎ Gives faults.Memory (accepted sector (held h) empty) result)
 accepted_read first again calls made sector len empty pieces result f m is most room len_is are of_sector judged =
-    with_told (history_told first calls) (λ h (e : len ≡ length (shown h)) (are : length (shown h) ≡ sector * (len / sector) → ArePieces (shown h) pieces).
-    inr (rw (accepted-rest sector (shown h) empty len e most room) (subst (λ z. Gives faults.Memory (accepted_as z (shown h) empty (judged_by.shown z (shown h))) result) of_sector
-    (judged (shown h) (are (sym e ∙ len_back sector len is (room_is (len % sector) (len / sector) (least_sectors sector 128) room).0))))))
-    len_is (told_before (λ h. length (shown h) ≡ sector * (len / sector) → ArePieces (shown h) pieces) first again calls made f m are)
+    with_told (history_told first calls) (λ h (e : len ≡ length (held h)) (are : length (held h) ≡ sector * (len / sector) → ArePieces (held h) pieces).
+    inr (rw (accepted-rest sector (held h) empty len e most room) (subst (λ z. Gives faults.Memory (accepted_as z (held h) empty (judged_by.shown z (held h))) result) of_sector
+    (judged (held h) (are (sym e ∙ len_back sector len is (room_is (len % sector) (len / sector) (least_sectors sector 128) room).0))))))
+    len_is (told_before (λ h. length (held h) ≡ sector * (len / sector) → ArePieces (held h) pieces) first again calls made f m are)
 
 -- the length that was read
 pub len_read : (o : Option History) (sector len : ℕ) (pieces : Pieces) (result : Result Seen TableFault) → IsSector sector → (len % sector == 0 && nat_le (least_sectors sector 128) (len / sector)) ≡ true
-    → IfSome o (λ h. len ≡ length (shown h)) → pieces.sector ≡ sector → pieces.sectors ≡ len / sector → IfOk result (λ seen. seen.sectors ≡ pieces.sector / 512 * pieces.sectors)
-    → IfSome o (λ h. IfOk result (λ seen. length (shown h) ≡ 512 * seen.sectors))
+    → IfSome o (λ h. len ≡ length (held h)) → pieces.sector ≡ sector → pieces.sectors ≡ len / sector → IfOk result (λ seen. seen.sectors ≡ pieces.sector / 512 * pieces.sectors)
+    → IfSome o (λ h. IfOk result (λ seen. length (held h) ≡ 512 * seen.sectors))
 len_read o sector len pieces result is room len_is of_sector sectors units =
-    if_told o (λ h e. by_result result units (length (shown h)) e) len_is where
+    if_told o (λ h e. by_result result units (length (held h)) e) len_is where
       whole : len % sector ≡ 0
       whole = (room_is (len % sector) (len / sector) (least_sectors sector 128) room).0
 

@@ -3,7 +3,7 @@ use Rattle.std.proofs.Common.{◌≡◌, ℕ, ◌≤◌, List, length, Option, S
 use Rattle.std.specs.Prelude.{IfOk, IfSome, IsErr}
 use Rattle.rp_base.specs.declared.faults.Failed.{Failed}
 use Rattle.rp_base.specs.Faults.{HasCause, Rose}
-use Rattle.rp_disk.specs.History.{History, shown}
+use Rattle.rp_disk.specs.History.{History, held}
 use Rattle.rp_disk.specs.Made.{Made, history_told}
 use Rattle.rp_tree.specs.Reads.{Reads}
 
@@ -29,7 +29,7 @@ pub reads-farther : {T : Type 0} {first again : Option (List ℕ)} {calls made :
 reads-farther {first = first} {calls = calls} {strays = strays} {more = more} near far result less reads = record {
   first = reads.first;
   calls = reads.calls;
-  strays = if_told (history_told first calls) (λ h (kept : near ≤ length (shown h) → more ≡ strays) within. kept (omega arith)) reads.strays;
+  strays = if_told (history_told first calls) (λ h (kept : near ≤ length (held h) → more ≡ strays) within. kept (omega arith)) reads.strays;
   cause = reads.cause;
 }
 
@@ -62,9 +62,9 @@ reads-then end first middle again calls some made strays some_strays more faults
   first = two.first ∙ one.first;
   calls = two.calls ∙ one.calls;
   strays = with_told (history_told first calls)
-      (λ h (kept : end ≤ length (shown h) → some_strays ≡ strays) (still : end ≤ length (shown h) → more ≡ some_strays) within. still within ∙ kept within)
+      (λ h (kept : end ≤ length (held h) → some_strays ≡ strays) (still : end ≤ length (held h) → more ≡ some_strays) within. still within ∙ kept within)
       one.strays
-      (told_before (λ h. end ≤ length (shown h) → more ≡ some_strays) first middle calls some one.first one.calls two.strays);
+      (told_before (λ h. end ≤ length (held h) → more ≡ some_strays) first middle calls some one.first one.calls two.strays);
   cause = rw one.cause.kept at two.cause;
 }
 
@@ -77,7 +77,7 @@ reads-none end first calls strays faults value = record {
   strays = none (history_told first calls);
   cause = record { later = omega arith; failed = tt; kept = refl };
 } where
-  none : (o : Option History) → IfSome o (λ h. end ≤ length (shown h) → strays ≡ strays)
+  none : (o : Option History) → IfSome o (λ h. end ≤ length (held h) → strays ≡ strays)
   none None = tt
   none (Some h) = λ within. refl
 

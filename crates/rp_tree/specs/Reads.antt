@@ -3,7 +3,7 @@ use Rattle.std.specs.Prelude.{ℕ, ◌≡◌, ◌+◌, ◌*◌, ◌≤◌, max, 
 use Rattle.rp_base.specs.declared.faults.Failed.{Failed}
 use Rattle.rp_base.specs.declared.table.Row.{Row}
 use Rattle.rp_base.specs.Faults.{HasCause}
-use Rattle.rp_disk.specs.History.{shown}
+use Rattle.rp_disk.specs.History.{held}
 use Rattle.rp_disk.specs.Made.{Made, history_told}
 
 -- the byte behind a row's last one
@@ -19,5 +19,5 @@ pub record Reads {T : Type 0} (end : ℕ) (bytes again : Option (List ℕ)) (mad
     (result : Result T Failed) : Type 0 where
   pub first : again ≡ bytes
   pub calls : now ≡ made
-  pub strays : IfSome (history_told bytes made) (λ h. end ≤ length (shown h) → more ≡ passed)
+  pub strays : IfSome (history_told bytes made) (λ h. end ≤ length (held h) → more ≡ passed)
   pub cause : HasCause failed count result

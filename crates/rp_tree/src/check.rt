@@ -4,7 +4,7 @@ ghost use Rattle.std.specs.Prelude.{◌≡◌, ◌+◌, ◌-◌, ◌*◌, ◌^�
 ghost use Rattle.std.specs.Option.{option_or};
 ghost use Rattle.rp_base.specs.Faults.{HasCause};
 ghost use Rattle.rp_base.specs.Trees.{levels as levels_of};
-ghost use Rattle.rp_disk.specs.History.{shown};
+ghost use Rattle.rp_disk.specs.History.{held};
 ghost use Rattle.rp_disk.specs.Made.{history_told};
 ghost use Rattle.rp_verity.specs.Superblock.{FitIn, salt_in, superblock_in};
 ghost use Rattle.sha2.specs.Hashers.{Holds256};
@@ -51,8 +51,8 @@ pub fn check_root<D: Disk>(
     requires room { 24576 ≤ length room.old }
     ensures first { D.first disk.new ≡ D.first disk.old }
     ensures calls { D.calls disk.new ≡ D.calls disk.old }
-    ensures strays { IfSome (history_told (D.first disk.old) (D.calls disk.old)) (λ h. ends_of payload.now hash.now ≤ length (shown h) → D.strays disk.new ≡ D.strays disk.old) }
-    ensures answer { IfSome (history_told (D.first disk.old) (D.calls disk.old)) (λ h. IfOk result (λ right. right ≡ has_root (shown h) payload.now hash.now)) }
+    ensures strays { IfSome (history_told (D.first disk.old) (D.calls disk.old)) (λ h. ends_of payload.now hash.now ≤ length (held h) → D.strays disk.new ≡ D.strays disk.old) }
+    ensures answer { IfSome (history_told (D.first disk.old) (D.calls disk.old)) (λ h. IfOk result (λ right. right ≡ has_root (held h) payload.now hash.now)) }
     ensures cause { HasCause (D.faults disk.old) (D.faults disk.new) result }
 {
     let block = &mut room[..BLOCK];
@@ -78,8 +78,8 @@ pub fn check_all<D: Disk>(
     requires room { 24576 ≤ length room.old }
     ensures first { D.first disk.new ≡ D.first disk.old }
     ensures calls { D.calls disk.new ≡ D.calls disk.old }
-    ensures strays { IfSome (history_told (D.first disk.old) (D.calls disk.old)) (λ h. ends_of payload.now hash.now ≤ length (shown h) → D.strays disk.new ≡ D.strays disk.old) }
-    ensures answer { IfSome (history_told (D.first disk.old) (D.calls disk.old)) (λ h. IfOk result (λ bad. bad ≡ first_bad (shown h) payload.now hash.now)) }
+    ensures strays { IfSome (history_told (D.first disk.old) (D.calls disk.old)) (λ h. ends_of payload.now hash.now ≤ length (held h) → D.strays disk.new ≡ D.strays disk.old) }
+    ensures answer { IfSome (history_told (D.first disk.old) (D.calls disk.old)) (λ h. IfOk result (λ bad. bad ≡ first_bad (held h) payload.now hash.now)) }
     ensures cause { HasCause (D.faults disk.old) (D.faults disk.new) result }
 {
     let (block, _) = room.split_at_mut(BLOCK);
@@ -102,7 +102,7 @@ fn read_tree<D: Disk>(
     requires block { length block.old ≡ 4096 }
     ensures reads { Reads (end_of hash.now) (D.first disk.old) (D.first disk.new) (D.calls disk.old) (D.calls disk.new) (D.strays disk.old) (D.strays disk.new) (D.faults disk.old) (D.faults disk.new) result }
     ensures tree { IfSome (history_told (D.first disk.old) (D.calls disk.old)) (λ h. IfOk result (λ found.
-        MatchOption found (superblock_of (shown h) payload.now hash.now ≡ None) (IsTreeOf (shown h) payload.now hash.now))) }
+        MatchOption found (superblock_of (held h) payload.now hash.now ≡ None) (IsTreeOf (held h) payload.now hash.now))) }
     ensures fits { IfOk result (λ found. IfSome found (λ tree. FitIn tree.said.blocks payload.now hash.now)) }
 {
     read_blocks(disk, hash, 0, block)?;
@@ -135,9 +135,9 @@ fn is_rooted<D: Disk>(
     requires hash_end { hash.now.start + hash.now.size ≤ 2 ^ 35 }
     requires block { length block.old ≡ 4096 }
     ensures reads { Reads (ends_of payload.now hash.now) (D.first disk.old) (D.first disk.new) (D.calls disk.old) (D.calls disk.new) (D.strays disk.old) (D.strays disk.new) (D.faults disk.old) (D.faults disk.new) result }
-    ensures block { IfSome (history_told (D.first disk.old) (D.calls disk.old)) (λ h. OnOk result (block.new ≡ top_of (shown h) payload.now hash.now tree.now.said.blocks)) }
-    ensures root { IfSome (history_told (D.first disk.old) (D.calls disk.old)) (λ h. IsTreeOf (shown h) payload.now hash.now tree.now
-        → IfOk result (λ right. right ≡ is_rooted (shown h) payload.now hash.now tree.now.said)) }
+    ensures block { IfSome (history_told (D.first disk.old) (D.calls disk.old)) (λ h. OnOk result (block.new ≡ top_of (held h) payload.now hash.now tree.now.said.blocks)) }
+    ensures root { IfSome (history_told (D.first disk.old) (D.calls disk.old)) (λ h. IsTreeOf (held h) payload.now hash.now tree.now
+        → IfOk result (λ right. right ≡ is_rooted (held h) payload.now hash.now tree.now.said)) }
 {
     read_top(disk, payload, hash, tree.said.blocks, block)?;
     Ok(is_right(&tree.salted, block, &root_of(payload, hash), 0))
@@ -156,7 +156,7 @@ fn read_top<D: Disk>(
     requires hash_end { hash.now.start + hash.now.size ≤ 2 ^ 35 }
     requires block { length block.old ≡ 4096 }
     ensures reads { Reads (ends_of payload.now hash.now) (D.first disk.old) (D.first disk.new) (D.calls disk.old) (D.calls disk.new) (D.strays disk.old) (D.strays disk.new) (D.faults disk.old) (D.faults disk.new) result }
-    ensures block { IfSome (history_told (D.first disk.old) (D.calls disk.old)) (λ h. OnOk result (block.new ≡ top_of (shown h) payload.now hash.now blocks)) }
+    ensures block { IfSome (history_told (D.first disk.old) (D.calls disk.old)) (λ h. OnOk result (block.new ≡ top_of (held h) payload.now hash.now blocks)) }
 {
     if blocks == 1 {
         read_blocks(disk, payload, 0, block)
@@ -190,8 +190,8 @@ fn check_tree<D: Disk>(
     requires hash_end { hash.now.start + hash.now.size ≤ 2 ^ 35 }
     requires room { length room.old ≡ 24576 }
     ensures reads { Reads (ends_of payload.now hash.now) (D.first disk.old) (D.first disk.new) (D.calls disk.old) (D.calls disk.new) (D.strays disk.old) (D.strays disk.new) (D.faults disk.old) (D.faults disk.new) result }
-    ensures bad { IfSome (history_told (D.first disk.old) (D.calls disk.old)) (λ h. IsTreeOf (shown h) payload.now hash.now tree.now
-        → IfOk result (λ bad. bad ≡ bad_in (shown h) payload.now hash.now tree.now.said)) }
+    ensures bad { IfSome (history_told (D.first disk.old) (D.calls disk.old)) (λ h. IsTreeOf (held h) payload.now hash.now tree.now
+        → IfOk result (λ bad. bad ≡ bad_in (held h) payload.now hash.now tree.now.said)) }
 {
     if tree.said.blocks == 1 {
         let (block, _) = room.split_at_mut(BLOCK);
@@ -231,9 +231,9 @@ fn top_stands<D: Disk>(
     requires low { count ≤ 5 }
     requires standing { length standing.old ≡ 4096 * count }
     ensures reads { Reads (ends_of payload.now hash.now) (D.first disk.old) (D.first disk.new) (D.calls disk.old) (D.calls disk.new) (D.strays disk.old) (D.strays disk.new) (D.faults disk.old) (D.faults disk.new) result }
-    ensures block { IfSome (history_told (D.first disk.old) (D.calls disk.old)) (λ h. OnOk result (drop (4096 * (count - 1)) standing.new ≡ block_of (shown h) hash.now 1)) }
-    ensures root { IfSome (history_told (D.first disk.old) (D.calls disk.old)) (λ h. IsTreeOf (shown h) payload.now hash.now tree.now
-        → IfOk result (λ right. right ≡ is_rooted (shown h) payload.now hash.now tree.now.said)) }
+    ensures block { IfSome (history_told (D.first disk.old) (D.calls disk.old)) (λ h. OnOk result (drop (4096 * (count - 1)) standing.new ≡ block_of (held h) hash.now 1)) }
+    ensures root { IfSome (history_told (D.first disk.old) (D.calls disk.old)) (λ h. IsTreeOf (held h) payload.now hash.now tree.now
+        → IfOk result (λ right. right ≡ is_rooted (held h) payload.now hash.now tree.now.said)) }
 {
     let at = BLOCK * (count as usize - 1);
     is_rooted(disk, payload, hash, tree, &mut standing[at..])
@@ -258,9 +258,9 @@ fn check_blocks<D: Disk>(
     requires buffer { 4096 ≤ length buffer.old }
     requires shape { IsShape hash.now count tree.now.said.blocks (length standing.old) 5 }
     ensures reads { Reads (ends_of payload.now hash.now) (D.first disk.old) (D.first disk.new) (D.calls disk.old) (D.calls disk.new) (D.strays disk.old) (D.strays disk.new) (D.faults disk.old) (D.faults disk.new) result }
-    ensures bad { IfSome (history_told (D.first disk.old) (D.calls disk.old)) (λ h. IsTreeOf (shown h) payload.now hash.now tree.now
-        → drop (4096 * (count - 1)) standing.old ≡ block_of (shown h) hash.now 1
-        → IfOk result (λ bad. bad ≡ wrong_block (shown h) (salt_of (shown h) hash.now tree.now.said) payload.now hash.now tree.now.said.blocks)) }
+    ensures bad { IfSome (history_told (D.first disk.old) (D.calls disk.old)) (λ h. IsTreeOf (held h) payload.now hash.now tree.now
+        → drop (4096 * (count - 1)) standing.old ≡ block_of (held h) hash.now 1
+        → IfOk result (λ bad. bad ≡ wrong_block (held h) (salt_of (held h) hash.now tree.now.said) payload.now hash.now tree.now.said.blocks)) }
 {
     let blocks = tree.said.blocks;
     let mut notes = [None; MOST_LEVELS];

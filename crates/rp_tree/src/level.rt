@@ -3,7 +3,7 @@
 ghost use Rattle.std.specs.Prelude.{◌≡◌, ◌+◌, ◌-◌, ◌*◌, ◌/◌, ◌%◌, ◌^◌, ◌<◌, ◌≤◌, ℕ, List, IfSome, OnOk, drop, length};
 ghost use Rattle.sha2.specs.Hashers.{Holds256};
 ghost use Rattle.rp_base.specs.declared.table.Row.{Row as ARow};
-ghost use Rattle.rp_disk.specs.History.{shown};
+ghost use Rattle.rp_disk.specs.History.{held};
 ghost use Rattle.rp_disk.specs.Made.{history_told};
 ghost use Rattle.rp_verity.specs.Tree.{runs as runs_of};
 ghost use Rattle.rp_verity.specs.Order.{blocks_over as blocks_of};
@@ -34,8 +34,8 @@ pub(crate) fn next_block<D: Disk>(
     requires index { index < runs_of total }
     ensures reads { Reads (end_of hash.now) (D.first disk.old) (D.first disk.new) (D.calls disk.old) (D.calls disk.new) (D.strays disk.old) (D.strays disk.new) (D.faults disk.old) (D.faults disk.new) result }
     ensures stands { IfSome (history_told (D.first disk.old) (D.calls disk.old)) (λ h. (salt : List ℕ) → Holds256 salted.now salt
-        → Stands (shown h) salt hash.now levels total index room.old notes.old
-        → OnOk result (Stands (shown h) salt hash.now levels total (index + 1) room.new notes.new)) }
+        → Stands (held h) salt hash.now levels total index room.old notes.old
+        → OnOk result (Stands (held h) salt hash.now levels total (index + 1) room.new notes.new)) }
 {
     if levels == 1 {
         return Ok(());
@@ -74,9 +74,9 @@ fn own_block<D: Disk>(
     requires index { index < runs_of total }
     ensures reads { Reads (end_of hash.now) (D.first disk.old) (D.first disk.new) (D.calls disk.old) (D.calls disk.new) (D.strays disk.old) (D.strays disk.new) (D.faults disk.old) (D.faults disk.new) result }
     ensures stands { IfSome (history_told (D.first disk.old) (D.calls disk.old)) (λ h. (salt : List ℕ) → Holds256 salted.now salt
-        → IsNoted (shown h) salt hash.now levels total index notes.old
-        → Stands (shown h) salt hash.now (levels - 1) (runs_of total) (index / 128 + 1) (drop 4096 room.old) (drop 1 notes.old)
-        → OnOk result (Stands (shown h) salt hash.now levels total (index + 1) room.new notes.new)) }
+        → IsNoted (held h) salt hash.now levels total index notes.old
+        → Stands (held h) salt hash.now (levels - 1) (runs_of total) (index / 128 + 1) (drop 4096 room.old) (drop 1 notes.old)
+        → OnOk result (Stands (held h) salt hash.now levels total (index + 1) room.new notes.new)) }
 {
     let (block, above) = room.split_at_mut(BLOCK);
     let number = 1 + blocks_over(levels - 1, runs(total)) + index;

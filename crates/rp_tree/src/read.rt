@@ -2,7 +2,7 @@
 
 ghost use Rattle.std.specs.Prelude.{◌≡◌, ◌+◌, ◌*◌, ◌≤◌, ◌^◌, IfSome, OnOk, length};
 ghost use Rattle.rp_base.specs.Image.{bytes_at};
-ghost use Rattle.rp_disk.specs.History.{shown};
+ghost use Rattle.rp_disk.specs.History.{held};
 ghost use Rattle.rp_disk.specs.Made.{history_told};
 ghost use Rattle.rp_tree.specs.Reads.{Reads, end_of};
 
@@ -25,7 +25,7 @@ pub(crate) fn read_blocks<D: Disk>(
     requires row { row.now.start + row.now.size ≤ 2 ^ 35 }
     requires blocks { 4096 * number + length buf.old ≤ 512 * row.now.size }
     ensures reads { Reads (end_of row.now) (D.first disk.old) (D.first disk.new) (D.calls disk.old) (D.calls disk.new) (D.strays disk.old) (D.strays disk.new) (D.faults disk.old) (D.faults disk.new) result }
-    ensures bytes { IfSome (history_told (D.first disk.old) (D.calls disk.old)) (λ h. OnOk result (buf.new ≡ bytes_at (shown h) (512 * row.now.start + 4096 * number) (length buf.old))) }
+    ensures bytes { IfSome (history_told (D.first disk.old) (D.calls disk.old)) (λ h. OnOk result (buf.new ≡ bytes_at (held h) (512 * row.now.start + 4096 * number) (length buf.old))) }
 {
     disk.read(UNIT * row.start + BLOCK * number, buf)
 }

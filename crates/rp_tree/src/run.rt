@@ -5,7 +5,7 @@ ghost use Rattle.std.specs.List.{range_with_len};
 ghost use Rattle.std.specs.Str.{bytes_eq};
 ghost use Rattle.sha2.specs.Hashers.{Holds256};
 ghost use Rattle.rp_base.specs.Image.{bytes_at};
-ghost use Rattle.rp_disk.specs.History.{shown};
+ghost use Rattle.rp_disk.specs.History.{held};
 ghost use Rattle.rp_disk.specs.Made.{history_told};
 ghost use Rattle.rp_verity.specs.Tree.{digest};
 ghost use Rattle.rp_base.specs.declared.table.Row.{Row as ARow};
@@ -39,9 +39,9 @@ pub(crate) fn data_under<D: Disk>(
     requires buffer { 4096 ≤ length buffer.old }
     ensures reads { Reads (end_of payload.now) (D.first disk.old) (D.first disk.new) (D.calls disk.old) (D.calls disk.new) (D.strays disk.old) (D.strays disk.new) (D.faults disk.old) (D.faults disk.new) result }
     ensures found { IfSome (history_told (D.first disk.old) (D.calls disk.old)) (λ h. (salt : List ℕ) (hash : ARow) (begin : ℕ)
-        → Holds256 salted.now salt → digests.now ≡ block_of (shown h) hash (begin + index)
-        → found ≡ first_wrong_of (shown h) salt payload.now 0 (128 * index) hash begin
-        → IfOk result (λ now. now ≡ first_wrong_of (shown h) salt payload.now 0 (min (128 * index + 128) blocks) hash begin)) }
+        → Holds256 salted.now salt → digests.now ≡ block_of (held h) hash (begin + index)
+        → found ≡ first_wrong_of (held h) salt payload.now 0 (128 * index) hash begin
+        → IfOk result (λ now. now ≡ first_wrong_of (held h) salt payload.now 0 (min (128 * index + 128) blocks) hash begin)) }
 {
     if found.is_some() {
         return Ok(found);
@@ -81,7 +81,7 @@ fn wrong_in<D: Disk>(
     ensures reads { Reads (end_of payload.now) (D.first disk.old) (D.first disk.new) (D.calls disk.old) (D.calls disk.new) (D.strays disk.old) (D.strays disk.new) (D.faults disk.old) (D.faults disk.new) result }
     ensures inside { IfOk result (λ found. IfSome found (λ k. k < count)) }
     ensures found { IfSome (history_told (D.first disk.old) (D.calls disk.old)) (λ h. (salt : List ℕ) → Holds256 salted.now salt
-        → IfOk result (λ found. found ≡ find (λ k. not (bytes_eq (digest salt (block_of (shown h) payload.now (first + k))) (bytes_at digests.now (32 * k) 32))) (range_with_len 0 count))) }
+        → IfOk result (λ found. found ≡ find (λ k. not (bytes_eq (digest salt (block_of (held h) payload.now (first + k))) (bytes_at digests.now (32 * k) 32))) (range_with_len 0 count))) }
 {
     let most = buffer.len() / BLOCK;
     let mut done = 0;

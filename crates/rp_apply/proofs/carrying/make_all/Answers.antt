@@ -1,5 +1,6 @@
 use Rattle.std.proofs.Common.{List, subst}
 use Rattle.std.specs.Prelude.{All}
+use Rattle.rp_gpt.proofs.InPlace.{in_place-room}
 use Rattle.rp_steps.specs.declared.step.Step.{Step}
 use Rattle.rp_apply.specs.Ready.{NamesPath}
 use Rattle.rp_apply.proofs.Can.{can_make}
@@ -15,9 +16,10 @@ make_steps-requires-clause-can g c =
 pub make_steps-requires-clause-goal : goal.make_steps-requires-clause-goal
 make_steps-requires-clause-goal g c =
     let r = c.requires in
+    let ready = c.args.ready.now in
     let formed = r.well_formed in
     record {
-      room = record { sector = formed.writable.sector; room = r.room; most = formed.target.most };
+      room = record { sector = formed.writable.sector; room = in_place-room ready.plan.target ready.plan.goal formed.writable.sector formed.in_place; most = formed.target.most };
       writable = formed.writable;
       fits = r.table_fits;
     }

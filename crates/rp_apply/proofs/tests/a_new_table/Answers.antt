@@ -38,8 +38,11 @@ formed dropped = record {
     bounds = record { first = refl; last = refl };
     rows = record { rows = none _; rising = λ i j d before below. absurd (omega arith) };
   };
-  bounded = record { first = omega arith; last = omega arith };
-  rows = record { sized = none _; in_bounds = none _; apart = λ i j d before below. absurd (omega arith) };
+  in_place = record {
+    bounded = record { first = omega arith; last = omega arith };
+    bounds = omega arith;
+    rows = record { sized = none _; in_bounds = none _; apart = λ i j d before below. absurd (omega arith) };
+  };
   notes = refl;
   sources = none _;
   pairs = none _;
@@ -48,6 +51,5 @@ formed dropped = record {
 pub prepare-requires : goal.prepare-requires
 prepare-requires g c = record {
   well_formed = rw (c.no_rows-shown.ensures, c.no_rows-goal.ensures, c.new.ensures) (formed c.new-2.result);
-  room = rw c.no_rows-goal.ensures (omega arith);
   sources = rw c.new.ensures (none _);
 }

@@ -4,7 +4,7 @@ use Rattle.rp_defs.specs.declared.draft.Half.{Half}
 use Rattle.rp_defs.specs.declared.value.Value.{Value}
 use Rattle.rp_defs.specs.Drafts.{half_said, want_of, draft_from}
 use Rattle.rp_defs.specs.Limits.{has_no_size}
-use Rattle.rp_defs.specs.WellFormed.{IsSoundDraft}
+use Rattle.rp_defs.specs.SoundDraft.{IsSoundDraft}
 use Rattle.rp_defs.proofs.BoundLemmas.{draft_sound, limits_kept, limits_broken}
 use Rattle.rp_defs.proofs.draft.within_limits.Goals as goal
 

@@ -4,7 +4,7 @@ use Rattle.std.proofs.lemmas.List.Elements.{All-same, All-nil}
 use Rattle.rp_defs.specs.declared.draft.Draft.{Draft}
 use Rattle.rp_defs.specs.declared.draft.Drafts.{Drafts}
 use Rattle.rp_defs.specs.Faults.{no_memory}
-use Rattle.rp_defs.specs.WellFormed.{IsSoundDraft}
+use Rattle.rp_defs.specs.SoundDraft.{IsSoundDraft}
 use Rattle.rp_defs.proofs.DraftLemmas.{rest_first, rest_last, rest_step, with_rest, gives_fault, gives_value, gives_same}
 use Rattle.rp_defs.proofs.reader.drafts_of.Goals as goal
 

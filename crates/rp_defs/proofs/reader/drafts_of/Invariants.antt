@@ -2,7 +2,7 @@
 use Rattle.std.proofs.Common.{◌≡◌, ◌≤◌, ◌-◌, ◌*◌, length, drop}
 use Rattle.std.specs.Prelude.{All}
 use Rattle.rp_defs.specs.Drafting.{drafts_of}
-use Rattle.rp_defs.specs.WellFormed.{IsSoundDraft}
+use Rattle.rp_defs.specs.SoundDraft.{IsSoundDraft}
 use Rattle.rp_defs.proofs.DraftLemmas.{with_rest}
 use Rattle.rp_defs.proofs.reader.drafts_of.Given as goal
 

@@ -1,6 +1,6 @@
 use Rattle.std.proofs.Common.{◌∙◌, sym}
 use Rattle.std.proofs.lemmas.List.Elements.{All-push, All-same}
-use Rattle.rp_defs.specs.WellFormed.{IsSoundDraft}
+use Rattle.rp_defs.specs.SoundDraft.{IsSoundDraft}
 use Rattle.rp_defs.proofs.PairLemmas.{pushed_ok}
 use Rattle.rp_defs.proofs.reader.with_group.Goals as goal
 

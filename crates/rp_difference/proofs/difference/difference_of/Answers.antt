@@ -1,6 +1,6 @@
 -- What differs of the table is first.
 use Rattle.std.proofs.Common.{◌∙◌, sym}
-use Rattle.rp_disk.specs.History.{shown}
+use Rattle.rp_disk.specs.History.{held}
 use Rattle.rp_disk.specs.Made.{history_told}
 use Rattle.rp_tree.proofs.ReadsLemmas.{always, if_told, ok-map}
 use Rattle.rp_difference.proofs.Differing.{by_table, by_trees}
@@ -9,11 +9,11 @@ use Rattle.rp_difference.proofs.difference.difference_of.Goals as goal
 pub returns-in-Some-clause-answer : goal.returns-in-Some-clause-answer
 returns-in-Some-clause-answer g c =
     always (history_told (g.D.Disk.first c.args.disk.now) (g.D.Disk.calls c.args.disk.now))
-    (λ h. by_table (shown h) c.args.arch c.args.seen.now c.args.plan.now c.in-Some.found (sym c.table_difference.ensures ∙ c.in-Some.is))
+    (λ h. by_table (held h) c.args.arch c.args.seen.now c.args.plan.now c.in-Some.found (sym c.table_difference.ensures ∙ c.in-Some.is))
 
 pub returns-clause-answer : goal.returns-clause-answer
 returns-clause-answer g c =
     if_told (history_told (g.D.Disk.first c.args.disk.now) (g.D.Disk.calls c.args.disk.now))
     (λ h. ok-map c.trees_difference.result
-    (λ found. by_trees (shown h) c.args.arch c.args.seen.now c.args.plan.now found (sym c.table_difference.ensures ∙ c.in_default.is)))
+    (λ found. by_trees (held h) c.args.arch c.args.seen.now c.args.plan.now found (sym c.table_difference.ensures ∙ c.in_default.is)))
     c.trees_difference.ensures.found

@@ -1,7 +1,7 @@
 -- The rows end within the image; what is wrong of a tree is what differs.
 use Rattle.std.proofs.Common.{◌≡◌, ◌≤◌, ◌*◌, ◌∙◌, Some, None, sym, ap}
 use Rattle.std.specs.Prelude.{option_map}
-use Rattle.rp_disk.specs.History.{shown}
+use Rattle.rp_disk.specs.History.{held}
 use Rattle.rp_disk.specs.Made.{history_told}
 use Rattle.rp_tree.specs.Reads.{ends_of}
 use Rattle.rp_tree.proofs.ReadsLemmas.{always, if_told, reads-farther, reads-fault, reads-value}
@@ -16,7 +16,7 @@ pub returns-in_default-clause-found : goal.returns-in_default-clause-found
 returns-in_default-clause-found g c =
     let is : row_of c.args.arch c.args.seen.now.shown.rows c.args.designator ≡ None = cc (c.row_of.ensures, c.in_default.is, c.as_slice-rows.ensures) in
     always (history_told (g.D.Disk.first c.args.disk.now) (g.D.Disk.calls c.args.disk.now))
-    (λ h. sym (no_data (shown h) c.args.arch c.args.seen.now.shown.rows c.args.designator is))
+    (λ h. sym (no_data (held h) c.args.arch c.args.seen.now.shown.rows c.args.designator is))
 
 pub returns-in_default-tree_row-clause-found : goal.returns-in_default-tree_row-clause-found
 returns-in_default-tree_row-clause-found g c =
@@ -25,7 +25,7 @@ returns-in_default-tree_row-clause-found g c =
     let none : tree_row c.args.arch c.args.seen.now.shown.rows c.args.designator ≡ None =
     cc (c.tree_row.ensures, c.in_default-tree_row.is, c.as_slice-rows.ensures) in
     always (history_told (g.D.Disk.first c.args.disk.now) (g.D.Disk.calls c.args.disk.now))
-    (λ h. sym (no_tree (shown h) c.args.arch c.args.seen.now.shown.rows c.args.designator c.in-Some.payload is none))
+    (λ h. sym (no_tree (held h) c.args.arch c.args.seen.now.shown.rows c.args.designator c.in-Some.payload is none))
 
 pub bad_of-requires-clause-payload : goal.bad_of-requires-clause-payload
 bad_of-requires-clause-payload g c =
@@ -85,9 +85,9 @@ returns-in-Some-2-clause-found g c =
     let too : tree_row c.args.arch c.args.seen.now.shown.rows c.args.designator ≡ Some c.in-Some-tree_row.hash =
     cc (c.tree_row.ensures, c.in-Some-tree_row.is, c.as_slice-rows.ensures) in
     if_told (history_told (g.D.Disk.first c.args.disk.now) (g.D.Disk.calls c.args.disk.now))
-    (λ h (bad : c.in_ok-bad.field-0 ≡ bad_of (shown h) c.in-Some.payload c.in-Some-tree_row.hash).
+    (λ h (bad : c.in_ok-bad.field-0 ≡ bad_of (held h) c.in-Some.payload c.in-Some-tree_row.hash).
     ap (option_map (differences.Tree c.args.designator)) (sym c.in-Some-2.is)
-    ∙ both (shown h) c.args.arch c.args.seen.now.shown.rows c.args.designator c.in-Some.payload c.in-Some-tree_row.hash c.in_ok-bad.field-0 is too bad)
+    ∙ both (held h) c.args.arch c.args.seen.now.shown.rows c.args.designator c.in-Some.payload c.in-Some-tree_row.hash c.in_ok-bad.field-0 is too bad)
     c.in_ok-bad.ensures.bad
 
 pub returns-in-None-clause-found : goal.returns-in-None-clause-found
@@ -97,7 +97,7 @@ returns-in-None-clause-found g c =
     let too : tree_row c.args.arch c.args.seen.now.shown.rows c.args.designator ≡ Some c.in-Some-tree_row.hash =
     cc (c.tree_row.ensures, c.in-Some-tree_row.is, c.as_slice-rows.ensures) in
     if_told (history_told (g.D.Disk.first c.args.disk.now) (g.D.Disk.calls c.args.disk.now))
-    (λ h (bad : c.in_ok-bad.field-0 ≡ bad_of (shown h) c.in-Some.payload c.in-Some-tree_row.hash).
+    (λ h (bad : c.in_ok-bad.field-0 ≡ bad_of (held h) c.in-Some.payload c.in-Some-tree_row.hash).
     ap (option_map (differences.Tree c.args.designator)) (sym c.in-None.is)
-    ∙ both (shown h) c.args.arch c.args.seen.now.shown.rows c.args.designator c.in-Some.payload c.in-Some-tree_row.hash c.in_ok-bad.field-0 is too bad)
+    ∙ both (held h) c.args.arch c.args.seen.now.shown.rows c.args.designator c.in-Some.payload c.in-Some-tree_row.hash c.in_ok-bad.field-0 is too bad)
     c.in_ok-bad.ensures.bad

@@ -1,7 +1,7 @@
 -- The rows of the designators so far.
 use Rattle.std.proofs.Common.{◌≡◌, Ok, length, map, take}
 use Rattle.std.specs.Prelude.{IfSome}
-use Rattle.rp_disk.specs.History.{shown}
+use Rattle.rp_disk.specs.History.{held}
 use Rattle.rp_disk.specs.Made.{history_told}
 use Rattle.rp_policy.specs.Reading.{designators}
 use Rattle.rp_tree.specs.Reads.{Reads}
@@ -15,5 +15,5 @@ invariant-loop-place g l = record {
       (g.D.Disk.calls l.disk) (g.D.Disk.strays l.initial.disk) (g.D.Disk.strays l.disk) (g.D.Disk.faults l.initial.disk) (g.D.Disk.faults l.disk) (Ok tt);
   size : length l.found ≡ 13;
   found : IfSome (history_told (g.D.Disk.first l.initial.disk) (g.D.Disk.calls l.initial.disk)) (λ h.
-      take l.place l.found ≡ map (found_of (shown h) l.arch l.rows) (take l.place designators));
+      take l.place l.found ≡ map (found_of (held h) l.arch l.rows) (take l.place designators));
 }

@@ -1,7 +1,7 @@
 use Rattle.std.proofs.Common.{◌≡◌, ◌≤◌, ℕ, Some, Option, ◌∙◌, ap, sym, subst}
 use Rattle.std.specs.Prelude.{IfSome}
 use Rattle.rp_base.specs.declared.table.Row.{Row}
-use Rattle.rp_disk.specs.History.{shown}
+use Rattle.rp_disk.specs.History.{held}
 use Rattle.rp_disk.specs.Made.{history_told}
 use Rattle.rp_tree.proofs.ReadsLemmas.{always, if_told, reads-farther, reads-fault, reads-value}
 use Rattle.rp_dissect.specs.Kinds.{found_as, kinds_of}
@@ -13,7 +13,7 @@ use Rattle.rp_dissect.proofs.found.found_of.Goals as goal
 pub returns-in_default-clause-found : goal.returns-in_default-clause-found
 returns-in_default-clause-found g c =
     always (history_told (g.D.Disk.first c.args.disk.now) (g.D.Disk.calls c.args.disk.now))
-    (λ h. sym (found-none (shown h) c.args.arch c.args.rows.now c.args.designator (sym c.row_of.ensures ∙ c.in_default.is)))
+    (λ h. sym (found-none (held h) c.args.arch c.args.rows.now c.args.designator (sym c.row_of.ensures ∙ c.in_default.is)))
 
 pub kinds_of-requires-clause-row : goal.kinds_of-requires-clause-row
 kinds_of-requires-clause-row g c =
@@ -56,9 +56,9 @@ returns-clause-found g c =
     let rows = c.args.rows.now in
     let row = c.in-Some.row in
     if_told (history_told (g.D.Disk.first c.args.disk.now) (g.D.Disk.calls c.args.disk.now))
-    (λ h (kinds : c.in_ok-kinds.kinds.0 ≡ kinds_of (shown h) row c.tree_row-tree.result).
-    sym (found-some (shown h) arch rows c.args.designator row (sym c.row_of.ensures ∙ c.in-Some.is)
+    (λ h (kinds : c.in_ok-kinds.kinds.0 ≡ kinds_of (held h) row c.tree_row-tree.result).
+    sym (found-some (held h) arch rows c.args.designator row (sym c.row_of.ensures ∙ c.in-Some.is)
     ∙ ap (λ (kinds : ℕ). Some (found_as row kinds))
-    (ap (λ (tree : Option Row). kinds_of (shown h) row tree) (sym c.tree_row-tree.ensures) ∙ sym kinds)
+    (ap (λ (tree : Option Row). kinds_of (held h) row tree) (sym c.tree_row-tree.ensures) ∙ sym kinds)
     ∙ ap Some (sym c.found_as.ensures)))
     c.in_ok-kinds.ensures.kinds

@@ -4,7 +4,7 @@ use Rattle.std.specs.Prelude.{map}
 use Rattle.rp_base.specs.Answers.{Gives}
 use Rattle.rp_base.specs.Faults.{Rose}
 use Rattle.rp_base.specs.declared.table.Row.{Row}
-use Rattle.rp_disk.specs.History.{shown}
+use Rattle.rp_disk.specs.History.{held}
 use Rattle.rp_disk.specs.Made.{history_told}
 use Rattle.rp_policy.specs.Reading.{designators}
 use Rattle.rp_tree.proofs.ReadsLemmas.{always, if_told, told_before, with_told}
@@ -18,7 +18,7 @@ use Rattle.rp_dissect.proofs.image.dissect_at.Goals as goal
 pub returns-in-Err-clause-answer : goal.returns-in-Err-clause-answer
 returns-in-Err-clause-answer g c =
     if_told (history_told (g.D.Disk.first c.args.disk.now) (g.D.Disk.calls c.args.disk.now))
-    (λ h read. err_answer c.args.sector c.args.arch c.args.policy.now (shown h) c.in-Err.fault c.of_table.result c.of_table.ensures.value read)
+    (λ h read. err_answer c.args.sector c.args.arch c.args.policy.now (held h) c.in-Err.fault c.of_table.result c.of_table.ensures.value read)
     c.in-Err.ensures.answer
 
 pub returns-in_default-found_in-clause-strays : goal.returns-in_default-found_in-clause-strays
@@ -27,7 +27,7 @@ returns-in_default-found_in-clause-strays g c =
     (g.D.Disk.strays c.args.disk.now) (g.D.Disk.strays c.read_at.new.disk) (g.D.Disk.strays c.found_in.new.disk) (farthest c.as_slice-rows.result.now)
     c.in-Ok.ensures.first c.in-Ok.ensures.calls c.in-Ok.ensures.strays
     (if_told (history_told (g.D.Disk.first c.args.disk.now) (g.D.Disk.calls c.args.disk.now))
-    (λ h (len : length (shown h) ≡ 512 * c.in-Ok.seen.sectors). rows_in c.args.sector c.in-Ok.seen c.as_slice-rows.result.now (length (shown h))
+    (λ h (len : length (held h) ≡ 512 * c.in-Ok.seen.sectors). rows_in c.args.sector c.in-Ok.seen c.as_slice-rows.result.now (length (held h))
     c.in-Ok.ensures.seen c.as_slice-rows.ensures len)
     c.in-Ok.ensures.len)
     c.in_default-found_in.ensures.reads.strays
@@ -47,7 +47,7 @@ returns-clause-strays g c =
     (g.D.Disk.strays c.args.disk.now) (g.D.Disk.strays c.read_at.new.disk) (g.D.Disk.strays c.found_in.new.disk) (farthest c.as_slice-rows.result.now)
     c.in-Ok.ensures.first c.in-Ok.ensures.calls c.in-Ok.ensures.strays
     (if_told (history_told (g.D.Disk.first c.args.disk.now) (g.D.Disk.calls c.args.disk.now))
-    (λ h (len : length (shown h) ≡ 512 * c.in-Ok.seen.sectors). rows_in c.args.sector c.in-Ok.seen c.as_slice-rows.result.now (length (shown h))
+    (λ h (len : length (held h) ≡ 512 * c.in-Ok.seen.sectors). rows_in c.args.sector c.in-Ok.seen c.as_slice-rows.result.now (length (held h))
     c.in-Ok.ensures.seen c.as_slice-rows.ensures len)
     c.in-Ok.ensures.len)
     c.in-Ok-found_in.ensures.reads.strays
@@ -58,14 +58,14 @@ returns-clause-answer g c =
     let policy = c.args.policy.now in
     let seen = c.in-Ok.seen in
     with_told (history_told (g.D.Disk.first c.args.disk.now) (g.D.Disk.calls c.args.disk.now))
-    (λ h (read : IsRead c.args.sector (Ok c.in-Ok.seen) (shown h))
-    (found : c.in-Ok-found_in.found ≡ map (found_of (shown h) arch c.as_slice-rows.result.now) designators).
-    ok_answer c.args.sector arch policy (shown h) seen c.verdicts_by.result
-    (subst (λ (rows : List Row). Gives faults.Memory (whole arch rows (listed policy arch rows (found_of (shown h) arch rows))) c.verdicts_by.result)
-    c.as_slice-rows.ensures (c.verdicts_by.ensures.gives (found_of (shown h) arch c.as_slice-rows.result.now) found))
+    (λ h (read : IsRead c.args.sector (Ok c.in-Ok.seen) (held h))
+    (found : c.in-Ok-found_in.found ≡ map (found_of (held h) arch c.as_slice-rows.result.now) designators).
+    ok_answer c.args.sector arch policy (held h) seen c.verdicts_by.result
+    (subst (λ (rows : List Row). Gives faults.Memory (whole arch rows (listed policy arch rows (found_of (held h) arch rows))) c.verdicts_by.result)
+    c.as_slice-rows.ensures (c.verdicts_by.ensures.gives (found_of (held h) arch c.as_slice-rows.result.now) found))
     read)
     c.in-Ok.ensures.answer
-    (told_before (λ h. c.in-Ok-found_in.found ≡ map (found_of (shown h) arch c.as_slice-rows.result.now) designators)
+    (told_before (λ h. c.in-Ok-found_in.found ≡ map (found_of (held h) arch c.as_slice-rows.result.now) designators)
     (g.D.Disk.first c.args.disk.now) (g.D.Disk.first c.read_at.new.disk) (g.D.Disk.calls c.args.disk.now) (g.D.Disk.calls c.read_at.new.disk)
     c.in-Ok.ensures.first c.in-Ok.ensures.calls c.in-Ok-found_in.ensures.found)
 

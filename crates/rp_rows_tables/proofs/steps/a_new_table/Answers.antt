@@ -38,8 +38,11 @@ formed dropped = record {
     bounds = record { first = refl; last = refl };
     rows = record { rows = none _; rising = λ i j d before below. absurd (omega arith) };
   };
-  bounded = record { first = omega arith; last = omega arith };
-  rows = record { sized = none _; in_bounds = none _; apart = λ i j d before below. absurd (omega arith) };
+  in_place = record {
+    bounded = record { first = omega arith; last = omega arith };
+    bounds = omega arith;
+    rows = record { sized = none _; in_bounds = none _; apart = λ i j d before below. absurd (omega arith) };
+  };
   notes = refl;
   sources = none _;
   pairs = none _;

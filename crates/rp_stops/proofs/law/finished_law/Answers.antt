@@ -20,5 +20,5 @@ returns-clause-shown c sector old empty seen plan body calls is are =
     (shown_goal old seen plan (plan-given sector old empty seen plan is) body calls are)
 
 pub returns-clause-table : goal.returns-clause-table
-returns-clause-table c sector old empty seen plan body calls is are bounds =
-    holds_table old seen plan (plan-given sector old empty seen plan is) body calls are bounds
+returns-clause-table c sector old empty seen plan body calls is are =
+    holds_table old seen plan (plan-given sector old empty seen plan is) body calls are

@@ -1,18 +1,18 @@
 use Rattle.std.proofs.Common.{◌∙◌, sym, inl, inr}
 use Rattle.std.proofs.lemmas.Result.{err_from_is_err_and}
-use Rattle.rp_disk.specs.History.{shown}
+use Rattle.rp_disk.specs.History.{held}
 use Rattle.rp_disk.specs.Made.{history_told}
 use Rattle.rp_table.proofs.Reading.{if_told, accepted-long, accepted-short, accepted_read, len_read, unread, is_disk}
 use Rattle.rp_table.proofs.image.read_at.Goals as goal
 
 pub returns-then-len-gt-GREATEST_LEN-clause-answer : goal.returns-then-len-gt-GREATEST_LEN-clause-answer
 returns-then-len-gt-GREATEST_LEN-clause-answer g c =
-    if_told (history_told (g.D.Disk.first c.args.disk.now) (g.D.Disk.calls c.args.disk.now)) (λ h is. inr (inl (accepted-long c.args.sector (shown h) c.args.empty c.in-Ok.len is c.if-len-gt-GREATEST_LEN.true))) c.in-Ok.ensures.len
+    if_told (history_told (g.D.Disk.first c.args.disk.now) (g.D.Disk.calls c.args.disk.now)) (λ h is. inr (inl (accepted-long c.args.sector (held h) c.args.empty c.in-Ok.len is c.if-len-gt-GREATEST_LEN.true))) c.in-Ok.ensures.len
 
 pub returns-then-not-has_room-clause-answer : goal.returns-then-not-has_room-clause-answer
 returns-then-not-has_room-clause-answer g c =
     if_told (history_told (g.D.Disk.first c.args.disk.now) (g.D.Disk.calls c.args.disk.now))
-    (λ h is. inr (inl (accepted-short c.args.sector (shown h) c.args.empty c.in-Ok.len is c.if-len-gt-GREATEST_LEN.false (sym c.has_room.ensures ∙ c.if-not-has_room.true)))) c.in-Ok.ensures.len
+    (λ h is. inr (inl (accepted-short c.args.sector (held h) c.args.empty c.in-Ok.len is c.if-len-gt-GREATEST_LEN.false (sym c.has_room.ensures ∙ c.if-not-has_room.true)))) c.in-Ok.ensures.len
 
 pub read_pieces-requires : goal.read_pieces-requires
 read_pieces-requires g c = rw (c.from.ensures) (is_disk c.args.sector c.in-Ok.len c.requires c.if-len-gt-GREATEST_LEN.false (sym c.has_room.ensures ∙ c.if-not-has_room.false))

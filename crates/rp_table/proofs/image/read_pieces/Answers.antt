@@ -1,5 +1,5 @@
 use Rattle.std.proofs.Common.{◌≡◌, ◌*◌, length, refl, ◌∙◌}
-use Rattle.rp_disk.specs.History.{shown}
+use Rattle.rp_disk.specs.History.{held}
 use Rattle.rp_disk.specs.Made.{history_told}
 use Rattle.rp_table.proofs.Reading.{told_before, disk_holds, no_stray, no_more_strays, pieces_told}
 use Rattle.rp_table.proofs.image.read_pieces.Goals as goal
@@ -13,7 +13,7 @@ returns-in_err-primary-clause-strays g c =
     let len = c.args.sector * c.args.sectors in
     no_more_strays o len (strays c.args.disk.now) (strays c.read_range.new.disk) (strays c.read_place.new.disk)
     (no_stray o len 512 _ _ (disk_holds c.args.sector c.args.sectors c.requires) c.read_range.ensures.strays)
-    (told_before (λ h. length (shown h) ≡ c.args.sector * c.args.sectors → strays c.read_place.new.disk ≡ strays c.read_range.new.disk) (first c.args.disk.now) (first c.read_range.new.disk) (calls c.args.disk.now)
+    (told_before (λ h. length (held h) ≡ c.args.sector * c.args.sectors → strays c.read_place.new.disk ≡ strays c.read_range.new.disk) (first c.args.disk.now) (first c.read_range.new.disk) (calls c.args.disk.now)
     (calls c.read_range.new.disk) c.read_range.ensures.first c.read_range.ensures.calls c.read_place.ensures.strays)
 
 pub returns-in_err-backup-clause-strays : goal.returns-in_err-backup-clause-strays
@@ -26,9 +26,9 @@ returns-in_err-backup-clause-strays g c =
     no_more_strays o len (strays c.args.disk.now) (strays c.read_place.new.disk) (strays c.read_place-2.new.disk)
     (no_more_strays o len (strays c.args.disk.now) (strays c.read_range.new.disk) (strays c.read_place.new.disk)
     (no_stray o len 512 _ _ (disk_holds c.args.sector c.args.sectors c.requires) c.read_range.ensures.strays)
-    (told_before (λ h. length (shown h) ≡ c.args.sector * c.args.sectors → strays c.read_place.new.disk ≡ strays c.read_range.new.disk) (first c.args.disk.now) (first c.read_range.new.disk) (calls c.args.disk.now)
+    (told_before (λ h. length (held h) ≡ c.args.sector * c.args.sectors → strays c.read_place.new.disk ≡ strays c.read_range.new.disk) (first c.args.disk.now) (first c.read_range.new.disk) (calls c.args.disk.now)
     (calls c.read_range.new.disk) c.read_range.ensures.first c.read_range.ensures.calls c.read_place.ensures.strays))
-    (told_before (λ h. length (shown h) ≡ c.args.sector * c.args.sectors → strays c.read_place-2.new.disk ≡ strays c.read_place.new.disk) (first c.args.disk.now) (first c.read_place.new.disk) (calls c.args.disk.now)
+    (told_before (λ h. length (held h) ≡ c.args.sector * c.args.sectors → strays c.read_place-2.new.disk ≡ strays c.read_place.new.disk) (first c.args.disk.now) (first c.read_place.new.disk) (calls c.args.disk.now)
     (calls c.read_place.new.disk) (c.read_place.ensures.first ∙ c.read_range.ensures.first) (c.read_place.ensures.calls ∙ c.read_range.ensures.calls) c.read_place-2.ensures.strays)
 
 pub returns-clause-strays : goal.returns-clause-strays
@@ -41,9 +41,9 @@ returns-clause-strays g c =
     no_more_strays o len (strays c.args.disk.now) (strays c.read_place.new.disk) (strays c.read_place-2.new.disk)
     (no_more_strays o len (strays c.args.disk.now) (strays c.read_range.new.disk) (strays c.read_place.new.disk)
     (no_stray o len 512 _ _ (disk_holds c.args.sector c.args.sectors c.requires) c.read_range.ensures.strays)
-    (told_before (λ h. length (shown h) ≡ c.args.sector * c.args.sectors → strays c.read_place.new.disk ≡ strays c.read_range.new.disk) (first c.args.disk.now) (first c.read_range.new.disk) (calls c.args.disk.now)
+    (told_before (λ h. length (held h) ≡ c.args.sector * c.args.sectors → strays c.read_place.new.disk ≡ strays c.read_range.new.disk) (first c.args.disk.now) (first c.read_range.new.disk) (calls c.args.disk.now)
     (calls c.read_range.new.disk) c.read_range.ensures.first c.read_range.ensures.calls c.read_place.ensures.strays))
-    (told_before (λ h. length (shown h) ≡ c.args.sector * c.args.sectors → strays c.read_place-2.new.disk ≡ strays c.read_place.new.disk) (first c.args.disk.now) (first c.read_place.new.disk) (calls c.args.disk.now)
+    (told_before (λ h. length (held h) ≡ c.args.sector * c.args.sectors → strays c.read_place-2.new.disk ≡ strays c.read_place.new.disk) (first c.args.disk.now) (first c.read_place.new.disk) (calls c.args.disk.now)
     (calls c.read_place.new.disk) (c.read_place.ensures.first ∙ c.read_range.ensures.first) (c.read_place.ensures.calls ∙ c.read_range.ensures.calls) c.read_place-2.ensures.strays)
 
 pub returns-clause-pieces : goal.returns-clause-pieces

@@ -1,5 +1,5 @@
 use Rattle.std.proofs.Common.{◌≡◌, ◌+◌, ◌*◌, ◌≤◌, length, refl, ◌∙◌, ap}
-use Rattle.rp_disk.specs.History.{shown}
+use Rattle.rp_disk.specs.History.{held}
 use Rattle.rp_disk.specs.Made.{history_told}
 use Rattle.rp_gpt.specs.Fields.{entry_count}
 use Rattle.rp_table.proofs.Reading.{told_before, header_inside, copy_inside, no_stray, no_more_strays, place_told}
@@ -18,7 +18,7 @@ returns-in_err-bytes-clause-strays g c =
     (no_stray o (c.args.sector * c.args.sectors) end (strays c.read_range.new.disk) (strays c.read_range-2.new.disk)
     (copy_inside c.args.which c.args.sector c.args.sectors c.entries_or_least-entries.result c.entries_of.result c.from-size.result c.copy_place.result c.copy_bytes.result c.requires c.entries_or_least-entries.ensures
     c.from-size.ensures c.copy_place.ensures c.copy_bytes.ensures)
-    (told_before (λ h. end ≤ length (shown h) → strays c.read_range-2.new.disk ≡ strays c.read_range.new.disk) (first c.args.disk.now) (first c.read_range.new.disk) (calls c.args.disk.now) (calls c.read_range.new.disk)
+    (told_before (λ h. end ≤ length (held h) → strays c.read_range-2.new.disk ≡ strays c.read_range.new.disk) (first c.args.disk.now) (first c.read_range.new.disk) (calls c.args.disk.now) (calls c.read_range.new.disk)
     c.read_range.ensures.first c.read_range.ensures.calls c.read_range-2.ensures.strays))
 
 pub returns-clause-strays : goal.returns-clause-strays
@@ -34,7 +34,7 @@ returns-clause-strays g c =
     (no_stray o (c.args.sector * c.args.sectors) end (strays c.read_range.new.disk) (strays c.read_range-2.new.disk)
     (copy_inside c.args.which c.args.sector c.args.sectors c.entries_or_least-entries.result c.entries_of.result c.from-size.result c.copy_place.result c.copy_bytes.result c.requires c.entries_or_least-entries.ensures
     c.from-size.ensures c.copy_place.ensures c.copy_bytes.ensures)
-    (told_before (λ h. end ≤ length (shown h) → strays c.read_range-2.new.disk ≡ strays c.read_range.new.disk) (first c.args.disk.now) (first c.read_range.new.disk) (calls c.args.disk.now) (calls c.read_range.new.disk)
+    (told_before (λ h. end ≤ length (held h) → strays c.read_range-2.new.disk ≡ strays c.read_range.new.disk) (first c.args.disk.now) (first c.read_range.new.disk) (calls c.args.disk.now) (calls c.read_range.new.disk)
     c.read_range.ensures.first c.read_range.ensures.calls c.read_range-2.ensures.strays))
 
 pub returns-clause-place : goal.returns-clause-place

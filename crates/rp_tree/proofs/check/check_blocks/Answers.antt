@@ -1,7 +1,7 @@
 -- One hash block of the lowest level after another, with the data blocks under it.
 use Rattle.std.proofs.Common.{◌≡◌, ◌≤◌, ◌+◌, ◌-◌, ◌*◌, ◌<◌, ℕ, Ok, length, take, min, refl, sym, arith}
 use Rattle.sha2.specs.Hashers.{Holds256}
-use Rattle.rp_disk.specs.History.{shown}
+use Rattle.rp_disk.specs.History.{held}
 use Rattle.rp_disk.specs.Made.{history_told}
 use Rattle.rp_verity.specs.Tree.{runs}
 use Rattle.rp_tree.specs.Checked.{salt_of}
@@ -21,7 +21,7 @@ loop-index-init g c =
       reads = reads-none _ _ _ _ _ tt;
       stands = always (history_told (g.D.Disk.first c.args.disk.now) (g.D.Disk.calls c.args.disk.now))
           (λ h salt holds top. (
-            stands-first (shown h) salt c.args.hash.now c.args.count c.args.tree.now.said.blocks 5 c.args.standing.now c.requires.shape.some c.requires.standing top,
+            stands-first (held h) salt c.args.hash.now c.args.count c.args.tree.now.said.blocks 5 c.args.standing.now c.requires.shape.some c.requires.standing top,
             rw zero refl,
           ));
     }
@@ -40,24 +40,24 @@ loop-index-preserved g c =
       reads = reads-value end _ tt (reads-then end _ _ _ _ _ _ _ _ _ _ _ _ _ _ next
           (reads-farther (end_of payload) end _ (omega arith) c.in_ok-now.ensures.reads));
       stands = with_told (history_told (g.D.Disk.first c.args.disk.now) (g.D.Disk.calls c.args.disk.now))
-          (λ h (so : StandsSo (shown h) (Holds256 c.args.tree.now.salted) payload hash c.args.count blocks c.args.standing.now c.loop-index.index
+          (λ h (so : StandsSo (held h) (Holds256 c.args.tree.now.salted) payload hash c.args.count blocks c.args.standing.now c.loop-index.index
           c.loop-index.standing c.loop-index.notes c.loop-index.found)
-          (both : NextGoes (shown h) (Holds256 c.args.tree.now.salted) hash c.args.count blocks c.loop-index.index c.loop-index.standing
+          (both : NextGoes (held h) (Holds256 c.args.tree.now.salted) hash c.args.count blocks c.loop-index.index c.loop-index.standing
           c.loop-index.notes (Ok c.in_ok-next_block.field-0) c.next_block.new.room c.next_block.new.notes
-          × Found (shown h) (Holds256 c.args.tree.now.salted) payload blocks c.loop-index.index c.split_at.result.0.now c.loop-index.found c.in_ok-now.now).
-          both-more (shown h) (Holds256 c.args.tree.now.salted) payload hash c.args.count blocks (length c.args.standing.now) 5 c.args.standing.now
+          × Found (held h) (Holds256 c.args.tree.now.salted) payload blocks c.loop-index.index c.split_at.result.0.now c.loop-index.found c.in_ok-now.now).
+          both-more (held h) (Holds256 c.args.tree.now.salted) payload hash c.args.count blocks (length c.args.standing.now) 5 c.args.standing.now
           c.loop-index.index c.loop-index.standing c.loop-index.notes c.loop-index.found c.in_ok-next_block.field-0 c.next_block.new.room
           c.next_block.new.notes c.in_ok-now.now c.requires.shape (omega arith) so both.0 (rw whole both.1))
           c.loop-index.invariant.stands
-          (both_told (λ h. NextGoes (shown h) (Holds256 c.args.tree.now.salted) hash c.args.count blocks c.loop-index.index c.loop-index.standing
+          (both_told (λ h. NextGoes (held h) (Holds256 c.args.tree.now.salted) hash c.args.count blocks c.loop-index.index c.loop-index.standing
           c.loop-index.notes (Ok c.in_ok-next_block.field-0) c.next_block.new.room c.next_block.new.notes)
-          (λ h. Found (shown h) (Holds256 c.args.tree.now.salted) payload blocks c.loop-index.index c.split_at.result.0.now c.loop-index.found c.in_ok-now.now)
+          (λ h. Found (held h) (Holds256 c.args.tree.now.salted) payload blocks c.loop-index.index c.split_at.result.0.now c.loop-index.found c.in_ok-now.now)
           (history_told (g.D.Disk.first c.args.disk.now) (g.D.Disk.calls c.args.disk.now))
-          (told_before (λ h. NextGoes (shown h) (Holds256 c.args.tree.now.salted) hash c.args.count blocks c.loop-index.index c.loop-index.standing
+          (told_before (λ h. NextGoes (held h) (Holds256 c.args.tree.now.salted) hash c.args.count blocks c.loop-index.index c.loop-index.standing
           c.loop-index.notes (Ok c.in_ok-next_block.field-0) c.next_block.new.room c.next_block.new.notes)
           (g.D.Disk.first c.args.disk.now) (g.D.Disk.first c.loop-index.disk) (g.D.Disk.calls c.args.disk.now) (g.D.Disk.calls c.loop-index.disk)
           c.loop-index.invariant.reads.first c.loop-index.invariant.reads.calls c.in_ok-next_block.ensures.stands)
-          (told_before (λ h. Found (shown h) (Holds256 c.args.tree.now.salted) payload blocks c.loop-index.index c.split_at.result.0.now
+          (told_before (λ h. Found (held h) (Holds256 c.args.tree.now.salted) payload blocks c.loop-index.index c.split_at.result.0.now
           c.loop-index.found c.in_ok-now.now)
           (g.D.Disk.first c.args.disk.now) (g.D.Disk.first c.next_block.new.disk) (g.D.Disk.calls c.args.disk.now) (g.D.Disk.calls c.next_block.new.disk)
           next.first next.calls c.in_ok-now.ensures.found));
@@ -80,11 +80,11 @@ returns-clause-bad g c =
     let all : c.loop-index.index ≡ runs blocks = omega (arith, c.runs-index-end.ensures) in
     let whole : min (128 * c.loop-index.index) blocks ≡ blocks = omega (arith, c.requires.fits.some) in
     if_told (history_told (g.D.Disk.first c.args.disk.now) (g.D.Disk.calls c.args.disk.now))
-    (λ h (so : StandsSo (shown h) (Holds256 c.args.tree.now.salted) payload hash c.args.count blocks c.args.standing.now c.loop-index.index
+    (λ h (so : StandsSo (held h) (Holds256 c.args.tree.now.salted) payload hash c.args.count blocks c.args.standing.now c.loop-index.index
     c.loop-index.standing c.loop-index.notes c.loop-index.found) is top.
-    let last = so (salt_of (shown h) hash said) is.salted top in
-    block-bad (shown h) (salt_of (shown h) hash said) payload hash blocks c.args.count c.first_noted.result c.loop-index.found c.block_bad.result
+    let last = so (salt_of (held h) hash said) is.salted top in
+    block-bad (held h) (salt_of (held h) hash said) payload hash blocks c.args.count c.first_noted.result c.loop-index.found c.block_bad.result
     c.requires.more c.requires.count
-    (c.first_noted.ensures (shown h) (salt_of (shown h) hash said) hash blocks c.loop-index.standing (rw all at last.0)) (rw whole at last.1)
+    (c.first_noted.ensures (held h) (salt_of (held h) hash said) hash blocks c.loop-index.standing (rw all at last.0)) (rw whole at last.1)
     c.block_bad.ensures)
     c.loop-index.invariant.stands

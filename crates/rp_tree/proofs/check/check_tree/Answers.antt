@@ -1,6 +1,6 @@
 -- The root, then the blocks under it.
 use Rattle.std.proofs.Common.{◌≡◌, ℕ, true, false, ◌-◌, ◌*◌, drop, arith}
-use Rattle.rp_disk.specs.History.{shown}
+use Rattle.rp_disk.specs.History.{held}
 use Rattle.rp_disk.specs.Made.{history_told}
 use Rattle.rp_tree.specs.Checked.{block_of, is_rooted, salt_of, wrong_block}
 use Rattle.rp_tree.specs.Reads.{ends_of}
@@ -15,8 +15,8 @@ returns-then-tree-eq1-clause-bad g c =
     let hash = c.args.hash.now in
     let tree = c.args.tree.now in
     if_told (history_told (g.D.Disk.first c.args.disk.now) (g.D.Disk.calls c.args.disk.now))
-    (λ h (root : IsTreeOf (shown h) payload hash tree → c.in_ok-rooted.rooted ≡ is_rooted (shown h) payload hash tree.said) is.
-    bad-one (shown h) payload hash tree.said c.in_ok-rooted.rooted c.top_bad.result c.if-tree-eq1.true (root is) c.top_bad.ensures)
+    (λ h (root : IsTreeOf (held h) payload hash tree → c.in_ok-rooted.rooted ≡ is_rooted (held h) payload hash tree.said) is.
+    bad-one (held h) payload hash tree.said c.in_ok-rooted.rooted c.top_bad.result c.if-tree-eq1.true (root is) c.top_bad.ensures)
     c.in_ok-rooted.ensures.root
 
 pub check_blocks-requires-clause-shape : goal.check_blocks-requires-clause-shape

@@ -3,7 +3,7 @@ use Rattle.std.proofs.Common.{◌≡◌, ◌≤◌, ◌+◌, ◌*◌, ℕ, List,
 use Rattle.std.specs.Prelude.{find, is_some}
 use Rattle.std.specs.List.{range_with_len}
 use Rattle.sha2.specs.Hashers.{Holds256}
-use Rattle.rp_disk.specs.History.{shown}
+use Rattle.rp_disk.specs.History.{held}
 use Rattle.rp_disk.specs.Made.{history_told}
 use Rattle.rp_tree.proofs.PieceLemmas.{differs_from, none-found, under-found, under-kept}
 use Rattle.rp_tree.proofs.ReadsLemmas.{always, if_told}
@@ -14,7 +14,7 @@ returns-then-is_some-clause-found g c =
     let some : is_some c.args.found ≡ true = (cc) in
     always (history_told (g.D.Disk.first c.args.disk.now) (g.D.Disk.calls c.args.disk.now))
     (λ h salt hash begin holds stands is.
-    under-kept (shown h) salt c.args.payload.now hash begin c.args.index c.args.blocks c.args.found some (omega (arith, c.requires.index)) is)
+    under-kept (held h) salt c.args.payload.now hash begin c.args.index c.args.blocks c.args.found some (omega (arith, c.requires.index)) is)
 
 pub returns-clause-found : goal.returns-clause-found
 returns-clause-found g c =
@@ -22,9 +22,9 @@ returns-clause-found g c =
     let all : min (128 * c.args.index + 128) c.args.blocks ≡ 128 * c.args.index + c.min-count.result = omega (arith, c.requires.index) in
     if_told (history_told (g.D.Disk.first c.args.disk.now) (g.D.Disk.calls c.args.disk.now))
     (λ h (found : (salt : List ℕ) → Holds256 c.args.salted.now salt
-    → c.in_ok-wrong.wrong ≡ find (differs_from (shown h) salt c.args.payload.now (128 * c.args.index) c.args.digests.now) (range_with_len 0 c.min-count.result))
+    → c.in_ok-wrong.wrong ≡ find (differs_from (held h) salt c.args.payload.now (128 * c.args.index) c.args.digests.now) (range_with_len 0 c.min-count.result))
     salt hash begin holds stands is.
     c.shifted.ensures
-    ∙ under-found (shown h) salt c.args.payload.now hash begin c.args.index c.min-count.result c.args.blocks c.args.digests.now c.in_ok-wrong.wrong
+    ∙ under-found (held h) salt c.args.payload.now hash begin c.args.index c.min-count.result c.args.blocks c.args.digests.now c.in_ok-wrong.wrong
     stands (omega arith) all (sym is ∙ none) (found salt holds))
     c.in_ok-wrong.ensures.found

@@ -3,7 +3,7 @@ use Rattle.std.proofs.Common.{◌≡◌, ◌≤◌, ◌*◌, ◌-◌, ℕ, List,
 use Rattle.std.specs.Prelude.{IfSome, find}
 use Rattle.std.specs.List.{range_with_len}
 use Rattle.sha2.specs.Hashers.{Holds256}
-use Rattle.rp_disk.specs.History.{shown}
+use Rattle.rp_disk.specs.History.{held}
 use Rattle.rp_disk.specs.Made.{history_told}
 use Rattle.rp_tree.specs.Reads.{Reads, end_of}
 use Rattle.rp_tree.proofs.PieceLemmas.{differs_from}
@@ -17,7 +17,7 @@ invariant-pieces g l = record {
   reads : Reads {T = Unit {0}} (end_of l.payload) (g.D.Disk.first l.initial.disk) (g.D.Disk.first l.disk) (g.D.Disk.calls l.initial.disk) (g.D.Disk.calls l.disk)
       (g.D.Disk.strays l.initial.disk) (g.D.Disk.strays l.disk) (g.D.Disk.faults l.initial.disk) (g.D.Disk.faults l.disk) (Ok tt);
   found : IfSome (history_told (g.D.Disk.first l.initial.disk) (g.D.Disk.calls l.initial.disk)) (λ h. (salt : List ℕ) → Holds256 l.salted salt
-      → find (differs_from (shown h) salt l.payload l.first l.digests) (range_with_len 0 l.done) ≡ None);
+      → find (differs_from (held h) salt l.payload l.first l.digests) (range_with_len 0 l.done) ≡ None);
 }
 
 abbrev pub decreases-pieces : goal.decreases-pieces
