@@ -6,7 +6,7 @@ use Rattle.std.proofs.lemmas.Bool.{ltb-false}
 use Rattle.std.proofs.lemmas.Bool.Decides.{nat_tests}
 use Rattle.std.proofs.lemmas.List.Elements.{All-nil, All-cons}
 use Rattle.std.proofs.lemmas.List.Kept.{AllPairs-cons}
-use Rattle.rp_base.specs.Geometry.{IsSector, first_usable, usable_end, least_sectors}
+use Rattle.rp_base.specs.Geometry.{IsSector, first_usable, least_sectors, sector_units, usable_end}
 use Rattle.rp_base.specs.Table.{AreWholeBounds, AreApart, IsInPlace, IsLaidOut, IsWhole, IsWritable, AreWritableRows, TableFits}
 use Rattle.rp_base.specs.declared.table.Row.{Row}
 use Rattle.rp_base.specs.declared.table.Table.{Table}
