@@ -90,9 +90,9 @@ module _ (sector : ℕ) (old : List ℕ) (empty : Empty) (seen : Seen) (target :
 
 module _ (sector : ℕ) (bytes : List ℕ) (empty : Empty) (seen : Seen) (target : ℕ) (defs : List Definition) (facts : List Fact) (seed : Guid)
     (plan : Plan) (was now : List Made)
-    (is : IsPlanned sector (history.shown (history_of bytes was)) empty seen target defs facts seed plan) where
+    (is : IsPlanned sector (history.held (history_of bytes was)) empty seen target defs facts seed plan) where
   abbrev old : List ℕ
-  old = history.shown (history_of bytes was)
+  old = history.held (history_of bytes was)
 
   pub is_left_any : (body planned : List Call) → AtAnyMomentBehindSync (Some bytes) was planned now → AreCallsOf seen plan body planned
       → (made : List Call) (image : List ℕ) → LeftSince (history_of bytes now) (moment (history_of bytes was)) made image
@@ -163,7 +163,7 @@ none_of (call ∷ more) rest e = absurd (cc)
 
 pub is_untouched : (bytes : List ℕ) (was now : List Made) → AtAnyMomentBehindSync (Some bytes) was [] now
     → (made : List Call) (image : List ℕ) → LeftSince (history_of bytes now) (moment (history_of bytes was)) made image
-    → IsLeft (history_of bytes was) (IsUntouched (history.shown (history_of bytes was))) made image
+    → IsLeft (history_of bytes was) (IsUntouched (history.held (history_of bytes was))) made image
 is_untouched bytes was now any made image since = elim (any made image since) [
   | inl before ↦ inl before
   | inr behind ↦
@@ -173,8 +173,8 @@ is_untouched bytes was now any made image since = elim (any made image since) [
         behind.1,
         (
           none,
-          agrees-none (history.shown (history_of bytes was)) image
-              (subst (λ calls. Leaves (history.shown (history_of bytes was)) calls image) none behind.3),
+          agrees-none (history.held (history_of bytes was)) image
+              (subst (λ calls. Leaves (history.held (history_of bytes was)) calls image) none behind.3),
         ),
       )
 ]

@@ -104,22 +104,22 @@ pub fn stopped_at_any_moment()
     ensures honest { (sector : ℕ) (bytes : List ℕ) (empty : Empty) (seen : Seen) (target : ℕ) (defs : List Definition) (facts : List Fact)
         (seed : Guid) (plan : Plan) (sources : Sources) (was now : List Made)
         → AtAnyMomentBehindSync (Some bytes) was (calls_for plan seen sources) now
-        → IsPlanned sector (history.shown (history_of bytes was)) empty seen target defs facts seed plan → NotesFit plan
+        → IsPlanned sector (history.held (history_of bytes was)) empty seen target defs facts seed plan → NotesFit plan
         → (made : List Call) (image : List ℕ) → LeftSince (history_of bytes now) (moment (history_of bytes was)) made image
-        → IsLeft (history_of bytes was) (IsSafeIfHonest sector (history.shown (history_of bytes was)) seen plan
-        (contents_for plan sources (grown (history.shown (history_of bytes was)) plan))) made image }
+        → IsLeft (history_of bytes was) (IsSafeIfHonest sector (history.held (history_of bytes was)) seen plan
+        (contents_for plan sources (grown (history.held (history_of bytes was)) plan))) made image }
     ensures whole { (sector : ℕ) (bytes : List ℕ) (empty : Empty) (seen : Seen) (target : ℕ) (defs : List Definition) (facts : List Fact)
         (seed : Guid) (plan : Plan) (sources : Sources) (was now : List Made)
         → AtAnyMomentBehindSync (Some bytes) was (calls_for plan seen sources) now
-        → IsPlanned sector (history.shown (history_of bytes was)) empty seen target defs facts seed plan → NotesFit plan
+        → IsPlanned sector (history.held (history_of bytes was)) empty seen target defs facts seed plan → NotesFit plan
         → (made : List Call) (image : List ℕ) → LeftSince (history_of bytes now) (moment (history_of bytes was)) made image
-        → IsLeft (history_of bytes was) (IsSafeIfWhole sector (history.shown (history_of bytes was)) seen plan
-        (contents_for plan sources (grown (history.shown (history_of bytes was)) plan))) made image }
+        → IsLeft (history_of bytes was) (IsSafeIfWhole sector (history.held (history_of bytes was)) seen plan
+        (contents_for plan sources (grown (history.held (history_of bytes was)) plan))) made image }
     ensures any { (sector : ℕ) (bytes : List ℕ) (empty : Empty) (seen : Seen) (target : ℕ) (defs : List Definition) (facts : List Fact)
         (seed : Guid) (plan : Plan) (body calls : List Call) (was now : List Made) → AtAnyMomentBehindSync (Some bytes) was calls now
-        → IsPlanned sector (history.shown (history_of bytes was)) empty seen target defs facts seed plan → AreCallsOf seen plan body calls
+        → IsPlanned sector (history.held (history_of bytes was)) empty seen target defs facts seed plan → AreCallsOf seen plan body calls
         → (made : List Call) (image : List ℕ) → LeftSince (history_of bytes now) (moment (history_of bytes was)) made image
-        → IsLeft (history_of bytes was) (StopsIfHonest sector (history.shown (history_of bytes was)) seen plan body) made image }
+        → IsLeft (history_of bytes was) (StopsIfHonest sector (history.held (history_of bytes was)) seen plan body) made image }
 {}
 
 /// Once a sync and all calls were made, a stop leaves the image with all of it, and no other.
@@ -127,15 +127,15 @@ pub fn a_stop_at_the_end_leaves_the_same()
     ensures exact { (sector : ℕ) (bytes : List ℕ) (empty : Empty) (seen : Seen) (target : ℕ) (defs : List Definition) (facts : List Fact)
         (seed : Guid) (plan : Plan) (sources : Sources) (was now : List Made)
         → EndsSettled (Some bytes) was (Call.Sync ∷ calls_for plan seen sources) now
-        → IsPlanned sector (history.shown (history_of bytes was)) empty seen target defs facts seed plan → NotesFit plan
+        → IsPlanned sector (history.held (history_of bytes was)) empty seen target defs facts seed plan → NotesFit plan
         → (image : List ℕ) → MayLeave (history_of bytes now) image
-        → IsDoneWith sector (history.shown (history_of bytes was)) seen defs seed plan
-        (contents_for plan sources (grown (history.shown (history_of bytes was)) plan)) image }
+        → IsDoneWith sector (history.held (history_of bytes was)) seen defs seed plan
+        (contents_for plan sources (grown (history.held (history_of bytes was)) plan)) image }
     ensures any { (sector : ℕ) (bytes : List ℕ) (empty : Empty) (seen : Seen) (target : ℕ) (defs : List Definition) (facts : List Fact)
         (seed : Guid) (plan : Plan) (body calls : List Call) (was now : List Made) → EndsSettled (Some bytes) was (Call.Sync ∷ calls) now
-        → IsPlanned sector (history.shown (history_of bytes was)) empty seen target defs facts seed plan → AreCallsOf seen plan body calls
+        → IsPlanned sector (history.held (history_of bytes was)) empty seen target defs facts seed plan → AreCallsOf seen plan body calls
         → (image : List ℕ) → MayLeave (history_of bytes now) image
-        → HasGoal sector (history.shown (history_of bytes was)) seen defs seed plan image }
+        → HasGoal sector (history.held (history_of bytes was)) seen defs seed plan image }
 {}
 
 /// Where nothing was planned, and a sync was the only call, the image could have been left at the start already, or it is the one
@@ -143,5 +143,5 @@ pub fn a_stop_at_the_end_leaves_the_same()
 pub fn a_sync_alone_changes_nothing()
     ensures { (bytes : List ℕ) (was now : List Made) → AtAnyMomentBehindSync (Some bytes) was [] now
         → (made : List Call) (image : List ℕ) → LeftSince (history_of bytes now) (moment (history_of bytes was)) made image
-        → IsLeft (history_of bytes was) (IsUntouched (history.shown (history_of bytes was))) made image }
+        → IsLeft (history_of bytes was) (IsUntouched (history.held (history_of bytes was))) made image }
 {}

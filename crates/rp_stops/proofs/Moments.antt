@@ -22,22 +22,22 @@ use Rattle.rp_stops.proofs.Stages.{Honest}
 -- where nothing was pending at the start
 pub any_moment : (sector : ℕ) (bytes : List ℕ) (empty : Empty) (seen : Seen) (plan : Plan) (body calls : List Call) (old now : List Made)
     → AtAnyMoment (Some bytes) old calls now → IsSettled (history_of bytes old)
-    → IsPlanFor sector (history.shown (history_of bytes old)) empty seen plan → AreCallsOf seen plan body calls
+    → IsPlanFor sector (history.held (history_of bytes old)) empty seen plan → AreCallsOf seen plan body calls
     → (made : List Call) (image : List ℕ) → LeftSince (history_of bytes now) (moment (history_of bytes old)) made image
-    → IsTornHonest sector (history.shown (history_of bytes old)) made image
-    → StopsAlone sector (history.shown (history_of bytes old)) seen plan body image
+    → IsTornHonest sector (history.held (history_of bytes old)) made image
+    → StopsAlone sector (history.held (history_of bytes old)) seen plan body image
 any_moment sector bytes empty seen plan body calls old now at_any settled_start is are made image since honest =
     let made_so = at_any settled_start made image since in
-    alone sector (history.shown (history_of bytes old)) empty seen plan body calls made image is are made_so.0 made_so.1 honest
+    alone sector (history.held (history_of bytes old)) empty seen plan body calls made image is are made_so.0 made_so.1 honest
 
 -- behind a sync, from any start
 pub behind_sync : (sector : ℕ) (bytes : List ℕ) (empty : Empty) (seen : Seen) (plan : Plan) (body calls : List Call) (old now : List Made)
     → AtAnyMomentBehindSync (Some bytes) old calls now
-    → IsPlanFor sector (history.shown (history_of bytes old)) empty seen plan → AreCallsOf seen plan body calls
+    → IsPlanFor sector (history.held (history_of bytes old)) empty seen plan → AreCallsOf seen plan body calls
     → (made : List Call) (image : List ℕ) → LeftSince (history_of bytes now) (moment (history_of bytes old)) made image
     → MayLeave (history_of bytes old) image
-    ⊎ ((more : List Call) × (made ≡ Sync ∷ more) × (IsTornHonest sector (history.shown (history_of bytes old)) more image
-    → StopsAlone sector (history.shown (history_of bytes old)) seen plan body image))
+    ⊎ ((more : List Call) × (made ≡ Sync ∷ more) × (IsTornHonest sector (history.held (history_of bytes old)) more image
+    → StopsAlone sector (history.held (history_of bytes old)) seen plan body image))
 behind_sync sector bytes empty seen plan body calls old now at_any is are made image since = elim (at_any made image since) [
   | inl before ↦ inl before
   | inr behind ↦
@@ -45,7 +45,7 @@ behind_sync sector bytes empty seen plan body calls old now at_any is are made i
         behind.0,
         behind.1,
         λ honest.
-            alone sector (history.shown (history_of bytes old)) empty seen plan body calls behind.0 image is are behind.2 behind.3 honest,
+            alone sector (history.held (history_of bytes old)) empty seen plan body calls behind.0 image is are behind.2 behind.3 honest,
       )
 ]
 

@@ -64,14 +64,14 @@ pub fn stops_of_whole_sectors()
 pub fn any_moment_is_safe()
     ensures settled { (sector : ℕ) (bytes : List ℕ) (empty : Empty) (seen : Seen) (plan : Plan) (body calls : List Call) (old now : List Made)
         → AtAnyMoment (Some bytes) old calls now → IsSettled (history_of bytes old)
-        → IsPlanFor sector (history.shown (history_of bytes old)) empty seen plan → AreCallsOf seen plan body calls
+        → IsPlanFor sector (history.held (history_of bytes old)) empty seen plan → AreCallsOf seen plan body calls
         → (made : List Call) (image : List ℕ) → LeftSince (history_of bytes now) (moment (history_of bytes old)) made image
-        → IsTornHonest sector (history.shown (history_of bytes old)) made image → StopsAlone sector (history.shown (history_of bytes old)) seen plan body image }
+        → IsTornHonest sector (history.held (history_of bytes old)) made image → StopsAlone sector (history.held (history_of bytes old)) seen plan body image }
     ensures behind_sync { (sector : ℕ) (bytes : List ℕ) (empty : Empty) (seen : Seen) (plan : Plan) (body calls : List Call) (old now : List Made)
-        → AtAnyMomentBehindSync (Some bytes) old calls now → IsPlanFor sector (history.shown (history_of bytes old)) empty seen plan → AreCallsOf seen plan body calls
+        → AtAnyMomentBehindSync (Some bytes) old calls now → IsPlanFor sector (history.held (history_of bytes old)) empty seen plan → AreCallsOf seen plan body calls
         → (made : List Call) (image : List ℕ) → LeftSince (history_of bytes now) (moment (history_of bytes old)) made image
         → MayLeave (history_of bytes old) image ⊎ ((more : List Call) × (made ≡ Call.Sync ∷ more)
-        × (IsTornHonest sector (history.shown (history_of bytes old)) more image → StopsAlone sector (history.shown (history_of bytes old)) seen plan body image)) }
+        × (IsTornHonest sector (history.held (history_of bytes old)) more image → StopsAlone sector (history.held (history_of bytes old)) seen plan body image)) }
 {}
 
 /// Two plans are carried out, one after the other: a stop is one in the first, or one in the second on the image that the first

@@ -7,6 +7,6 @@ use Rattle.rp_stops.proofs.Carried.{plan-given, plan-sector}
 use Rattle.rp_stops.proofs.law.finished_is_accepted.Goals as goal
 
 pub returns : goal.returns
-returns c sector old empty then seen plan body calls is are bounds other =
+returns c sector old empty then seen plan body calls is are other =
     subst (λ z. accepted z (all_done old calls) then ≡ Ok (seen_after seen plan)) (plan-sector sector old empty seen plan is)
-    (accepted_after old seen plan (plan-given sector old empty seen plan is) body calls are bounds then other)
+    (accepted_after old seen plan (plan-given sector old empty seen plan is) body calls are then other)
