@@ -122,6 +122,7 @@ module _ (request : Request) (list : List Definition) (disk later : Device) (sou
 
 -- the status of a demand, or of want of memory
 demand_status : (list : List Definition) (demand : Demand) → ((demand_refusal list demand).status ≡ 5) ⊎ (demand_refusal list demand ≡ memory_refusal)
+demand_status list (demands.ResetMix file) = inl refl
 demand_status list (demands.VerityHalf file) = inl refl
 demand_status list (demands.SourceTooLarge file need max) = inl refl
 demand_status list (demands.Existing file need have) = inl refl

@@ -111,6 +111,7 @@ module _ (request : Request) (list : List Definition) (disk later : Device) (sou
 
   -- the refusal of a demand, or of want of memory
   demand_status : (demand : Demand) → ((demand_refusal list demand).status ≡ 5) ⊎ ((demand_refusal list demand).status ≡ 10)
+  demand_status (demands.ResetMix file) = inl refl
   demand_status (demands.VerityHalf file) = inl refl
   demand_status (demands.SourceTooLarge file need max) = inl refl
   demand_status (demands.Existing file need have) = inl refl

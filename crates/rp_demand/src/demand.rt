@@ -5,6 +5,9 @@ use thiserror::Error;
 /// this order is told, for the least file.
 #[derive(Clone, Copy, Debug, PartialEq, Eq, Error)]
 pub enum Demand {
+    /// A factory reset is asked for, and the definition has the type of an earlier one and says otherwise whether it is reset.
+    #[error("definitions of one type disagree on factory reset")]
+    ResetMix { file: u16 },
     /// One half of a pair has a row already, and the other hasn't.
     #[error("one half of a pair has a partition already")]
     VerityHalf { file: u16 },

@@ -18,6 +18,7 @@ asked kind file numbers = record { status = exit.demand; words = kind ∷ file �
 
 -- the refusal of a demand, with its numbers in the order of its fields, or of want of memory
 abbrev pub demand_refusal : List Definition → Demand → Refusal
+demand_refusal list (demands.ResetMix file) = asked (codes "ResetMix") (file_of list file) []
 demand_refusal list (demands.VerityHalf file) = asked (codes "VerityHalf") (file_of list file) []
 demand_refusal list (demands.SourceTooLarge file need max) = asked (codes "SourceTooLarge") (file_of list file) (need ∷ max ∷ [])
 demand_refusal list (demands.Existing file need have) = asked (codes "Existing") (file_of list file) (need ∷ have ∷ [])

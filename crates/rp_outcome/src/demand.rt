@@ -13,6 +13,7 @@ pub fn demand_refusal(list: &[Definition], demand: Demand) -> Refusal<'_>
     use Word::{Absent, Number};
     let (kind, file, first, second) = match demand {
         Demand::Memory => return Refusal::memory(),
+        Demand::ResetMix { file } => ("ResetMix", file, Absent, Absent),
         Demand::VerityHalf { file } => ("VerityHalf", file, Absent, Absent),
         Demand::SourceTooLarge { file, need, max } => {
             ("SourceTooLarge", file, Number(need), Number(max))

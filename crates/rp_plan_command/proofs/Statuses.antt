@@ -87,6 +87,7 @@ printed_as out after refusal other status refuses same = subst (λ (r : Refusal)
 
 -- the refusal of a demand, or of want of memory
 demand_status : (list : List Definition) (demand : Demand) → ((demand_refusal list demand).status ≡ 5) ⊎ (demand_refusal list demand ≡ memory_refusal)
+demand_status list (demands.ResetMix file) = inl refl
 demand_status list (demands.VerityHalf file) = inl refl
 demand_status list (demands.SourceTooLarge file need max) = inl refl
 demand_status list (demands.Existing file need have) = inl refl
