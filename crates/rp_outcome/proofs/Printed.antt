@@ -1,7 +1,7 @@
 -- Texts that are printed one behind the other.
-use Rattle.std.proofs.Common.{ℕ, ◌≡◌, ◌≢◌, ◌+◌, ◌++◌, ◌∷◌, [], List, length, take, drop, get_or, ◌<◌, Option, Some, None, Result, Ok, Err, IfSome, OnOk, OnErr, sym, ◌∙◌, ap, subst, append_assoc, append-nil, refl, inl, inr, arith}
+use Rattle.std.proofs.Common.{ℕ, ◌≡◌, ◌≢◌, ◌+◌, ◌++◌, ◌∷◌, [], List, length, take, drop, get_or, ◌<◌, ◌≤◌, Option, Some, None, Result, Ok, Err, IfSome, OnOk, OnErr, sym, ◌∙◌, ap, subst, append_assoc, append-nil, refl, inl, inr, arith}
 use Rattle.std.proofs.Math.Seq.{take-append_seam, take-append-add}
-use Rattle.std.proofs.lemmas.List.{take-append-drop, take_more}
+use Rattle.std.proofs.lemmas.List.{take-append-drop, take_all, take_more}
 use Rattle.std.proofs.lemmas.List.Elements.{filter_map-append}
 use Rattle.std.proofs.lemmas.Grind.{flat_map-append}
 use Rattle.std.specs.Fmt.{decimal}
@@ -9,7 +9,7 @@ use Rattle.std.specs.List.{flat_map}
 use Rattle.std.specs.Prelude.{codes, filter_map}
 use Rattle.rp_base.specs.Faults.{Rose}
 use Rattle.rp_io.specs.Sink.{TookPart}
-use Rattle.rp_outcome.specs.Output.{Output, Prints, PrintsAll, PrintsPart}
+use Rattle.rp_outcome.specs.Output.{Differs, Output, Prints, PrintsAll, PrintsPart}
 use Rattle.rp_outcome.specs.Refusals.{Refusal, line_of}
 use Rattle.rp_outcome.specs.Words.{behind_blank, word_text, words_text}
 use Rattle.rp_outcome.specs.declared.refusal.Word.{Word}
@@ -111,6 +111,34 @@ all_as before now a b e p = subst (λ (bytes : List ℕ). PrintsAll before now b
 pub part_as : (before now : Output) (a b : List ℕ) → a ≡ b → PrintsPart before now a → PrintsPart before now b
 part_as before now a b e p = subst (λ (bytes : List ℕ). PrintsPart before now bytes) e p
 
+-- texts behind a first part of them
+pub pieces-more : {A : Type 0} (text : A → List ℕ) (items : List A) (i : ℕ) (d : A) → i < length items
+    → flat_map text (take (i + 1) items) ≡ flat_map text (take i items) ++ text (get_or items i d)
+pieces-more text items i d below =
+    ap (flat_map text) (take_more items i d below) ∙ flat_map-append text (take i items) (get_or items i d ∷ [])
+    ∙ ap (λ s. flat_map text (take i items) ++ s) (append-nil (text (get_or items i d)))
+
+-- all texts: those before one, it, and those behind it
+pub pieces-at : {A : Type 0} (text : A → List ℕ) (items : List A) (i : ℕ) (d : A) → i < length items
+    → flat_map text items ≡ (flat_map text (take i items) ++ text (get_or items i d)) ++ flat_map text (drop (i + 1) items)
+pieces-at text items i d below =
+    ap (flat_map text) (sym (take-append-drop (i + 1) items)) ∙ flat_map-append text (take (i + 1) items) (drop (i + 1) items)
+    ∙ ap (λ s. s ++ flat_map text (drop (i + 1) items)) (pieces-more text items i d below)
+
+-- no text is left
+pub pieces-all : {A : Type 0} (text : A → List ℕ) (items : List A) (i : ℕ) → length items ≤ i → flat_map text (take i items) ≡ flat_map text items
+pieces-all text items i past = ap (flat_map text) (take_all i items past)
+
+-- what was printed as far as the sink took it, in other words
+pub prints_as : {E : Type 0} (before now : Output) (a b : List ℕ) (result : Result (Unit {0}) E) → a ≡ b → OnOk result (PrintsAll before now a)
+    → OnErr result (PrintsPart before now a) → Prints before now b
+prints_as before now a b (Ok u) e done failed = inl (all_as before now a b e done)
+prints_as before now a b (Err error) e done failed = inr (part_as before now a b e failed)
+
+-- the text of a difference in other words
+pub differs_as : (before now : Output) (a b : List ℕ) (status : ℕ) → a ≡ b → Differs before now a status → Differs before now b status
+differs_as before now a b status e told = subst (λ (bytes : List ℕ). Differs before now bytes status) e told
+
 -- the line of a refusal, by its words
 line_of-words : (status : ℕ) (words : List Word) → status ≢ 10
     → line_of (record { status = status; words = filter_map word_text words })
@@ -129,7 +157,5 @@ pub prints_line : {E : Type 0} (before now : Output) (refusal : Refusal) (status
     → OnOk result (PrintsAll before now (codes "error " ++ decimal status ++ words_text words ++ codes "\n"))
     → OnErr result (PrintsPart before now (codes "error " ++ decimal status ++ words_text words ++ codes "\n"))
     → Prints before now (line_of refusal)
-prints_line before now refusal status words (Ok u) view other done failed =
-    inl (all_as before now _ _ (sym (line_of-words status words other) ∙ ap line_of view) done)
-prints_line before now refusal status words (Err e) view other done failed =
-    inr (part_as before now _ _ (sym (line_of-words status words other) ∙ ap line_of view) failed)
+prints_line before now refusal status words result view other done failed =
+    prints_as before now _ _ result (sym (line_of-words status words other) ∙ ap line_of view) done failed

@@ -32,6 +32,10 @@ Prints before now bytes = PrintsAll before now bytes ⊎ PrintsPart before now b
 abbrev pub Finishes : Output → Output → List ℕ → ℕ → Type 0
 Finishes before now text status = ((status ≡ exit.done) × PrintsAll before now text) ⊎ ((status ≡ exit.sink) × PrintsPart before now text)
 
+-- and one that tells a difference
+abbrev pub Differs : Output → Output → List ℕ → ℕ → Type 0
+Differs before now text status = ((status ≡ exit.differs) × PrintsAll before now text) ⊎ ((status ≡ exit.sink) × PrintsPart before now text)
+
 -- a command that isn't done ends with the status of a refusal, and with its line as far as the sink took it
 pub record Refuses (before now : Output) (refusal : Refusal) (status : ℕ) : Type 0 where
   pub answers : status ≡ refusal.status

@@ -5,6 +5,10 @@ use Rattle.std.specs.Prelude.{ℕ}
 abbrev pub done : ℕ
 done = 0
 
+-- what was asked for is told, and isn't so
+abbrev pub differs : ℕ
+differs = 1
+
 -- the words aren't canonical
 abbrev pub words : ℕ
 words = 2

@@ -1,5 +1,5 @@
 -- Folders, or sources, as a command finds and leaves them.
-use Rattle.std.specs.Prelude.{ℕ, ◌≡◌, Option}
+use Rattle.std.specs.Prelude.{ℕ, Option}
 
 -- folders or sources at a moment: what they hold, where they tell it, how many of their calls have failed, and how many
 -- reached for what isn't there

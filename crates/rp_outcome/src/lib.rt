@@ -11,7 +11,9 @@ mod table;
 
 pub use definitions::{def_refusal, load_refusal};
 pub use demand::demand_refusal;
-pub use printing::{finish, refuse};
+pub use printing::{differ, finish, print_pieces, refuse};
 pub use refusal::Refusal;
-pub use status::{CHANGED, DEFINITIONS, DEMAND, DISK, DONE, FILES, IMAGE, MEMORY, SINK, WORDS};
+pub use status::{
+    CHANGED, DEFINITIONS, DEMAND, DIFFERS, DISK, DONE, FILES, IMAGE, MEMORY, SINK, WORDS,
+};
 pub use table::table_refusal;

@@ -1,11 +1,12 @@
 ghost use Rattle.std.specs.Prelude.{◌++◌, ◌∷◌, [], OnErr, OnOk, codes};
 ghost use Rattle.std.specs.Fmt.{decimal};
+ghost use Rattle.std.specs.List.{flat_map};
 ghost use Rattle.hex.specs.Hex.{encode_lower};
-ghost use Rattle.rp_outcome.specs.Output.{Finishes, PrintsAll, PrintsPart, Refuses, output};
+ghost use Rattle.rp_outcome.specs.Output.{Differs, Finishes, PrintsAll, PrintsPart, Refuses, output};
 ghost use Rattle.rp_outcome.specs.Words.{line_text, piece_text, words_text};
 
 use crate::refusal::{MOST, Refusal, Word};
-use crate::status::{DONE, MEMORY, SINK};
+use crate::status::{DIFFERS, DONE, MEMORY, SINK};
 use itoa::Buffer;
 use rp_base::Failed;
 use rp_io::Sink;
@@ -18,6 +19,30 @@ pub fn finish<K: Sink>(out: &mut K, text: &str) -> u8
         Ok(()) => DONE,
         Err(Failed) => SINK,
     }
+}
+
+/// Ends a command that tells a difference with its text, in pieces: prints them and answers `DIFFERS`, or `SINK` where the
+/// sink failed.
+pub fn differ<K: Sink>(out: &mut K, pieces: &[&str]) -> u8
+    ensures { Differs (output K.told K.faults out.old) (output K.told K.faults out.new) (flat_map (λ piece. piece.now) pieces.now) result }
+{
+    match print_pieces(out, pieces) {
+        Ok(()) => DIFFERS,
+        Err(_) => SINK,
+    }
+}
+
+/// Prints texts one behind another, as far as the sink takes them.
+pub fn print_pieces<K: Sink>(out: &mut K, pieces: &[&str]) -> Result<(), Failed>
+    ensures done { OnOk result (PrintsAll (output K.told K.faults out.old) (output K.told K.faults out.new)
+        (flat_map (λ piece. piece.now) pieces.now)) }
+    ensures failed { OnErr result (PrintsPart (output K.told K.faults out.old) (output K.told K.faults out.new)
+        (flat_map (λ piece. piece.now) pieces.now)) }
+{
+    for piece in pieces {
+        print(out, piece)?;
+    }
+    Ok(())
 }
 
 /// Ends a command that isn't done: prints the refusal's line and answers its status, which stays where the sink fails.

@@ -1,6 +1,9 @@
 /// The command is done.
 pub const DONE: u8 = 0;
 
+/// What was asked for is told, and isn't so.
+pub const DIFFERS: u8 = 1;
+
 /// The words aren't canonical.
 pub const WORDS: u8 = 2;
 
