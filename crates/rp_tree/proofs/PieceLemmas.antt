@@ -1,18 +1,34 @@
 -- Data blocks, a piece at a time, and the digests of a hash block.
-use Rattle.std.proofs.Common.{◌≡◌, ℕ, zero, suc, ◌+◌, ◌-◌, ◌*◌, ◌<◌, ◌≤◌, Bool, true, false, List, Option, Some, None, length, take, drop, min, refl, sym, ◌∙◌, ap, arith, true≢false}
-use Rattle.std.specs.Prelude.{find, is_some, not, option_map}
+use Rattle.std.proofs.Common.{◌≡◌, ℕ, ◌+◌, ◌-◌, ◌*◌, ◌<◌, ◌≤◌, Bool, true, false, List, [], Option, Some, None, length, take, drop, min, refl, sym, ◌∙◌, ap, arith, true≢false}
+use Rattle.std.specs.Prelude.{find, is_some, not, option_map, slice_index_or}
 use Rattle.std.specs.List.{range_with_len}
 use Rattle.std.specs.Str.{bytes_eq}
 use Rattle.std.proofs.lemmas.List.{drop-drop}
 use Rattle.rp_base.specs.declared.table.Row.{Row}
 use Rattle.rp_base.specs.Image.{bytes_at}
+use Rattle.rp_lanes.specs.Blocks.{block_of as lane_block}
 use Rattle.rp_verity.specs.Tree.{digest}
-use Rattle.rp_tree.specs.Checked.{block_of, first_wrong, is_wrong, stored_for}
+use Rattle.rp_tree.specs.Checked.{block_of, first_wrong, is_wrong}
 use Rattle.rp_tree.proofs.RangeLemmas.{find-longer, find-part, find-same, part-part}
 
 -- a block hasn't the digest that stands for it in bytes, one behind another
 abbrev pub differs : List ℕ → List ℕ → List ℕ → ℕ → Bool
 differs salt blocks digests k = not (bytes_eq (digest salt (bytes_at blocks (4096 * k) 4096)) (bytes_at digests (32 * k) 32))
+
+-- a digest isn't the one that stands for it in bytes, one behind another
+abbrev pub other : List (List ℕ) → List ℕ → ℕ → Bool
+other own digests k = not (bytes_eq (slice_index_or own k []) (bytes_at digests (32 * k) 32))
+
+-- the first of the blocks' digests that is another
+pub hashed-found : (salt blocks digests : List ℕ) (count : ℕ) (own : List (List ℕ)) → length own ≡ count
+    → ((k : ℕ) → k < count → slice_index_or own k [] ≡ digest salt (lane_block blocks 4096 k))
+    → find (other own digests) (range_with_len 0 (length own)) ≡ find (differs salt blocks digests) (range_with_len 0 count)
+hashed-found salt blocks digests count own all each =
+    rw all (find-same (other own digests) (differs salt blocks digests) 0 count (λ k low below.
+    let at : k * 4096 ≡ 4096 * k = omega arith in
+    let size : 4096 * k + 4096 - 4096 * k ≡ 4096 = omega arith in
+    let same : lane_block blocks 4096 k ≡ bytes_at blocks (4096 * k) 4096 = rw (at, size) refl in
+    rw (each k (omega arith), same) refl))
 
 -- the same of a data block from a number on
 abbrev pub differs_from : List ℕ → List ℕ → Row → ℕ → List ℕ → ℕ → Bool

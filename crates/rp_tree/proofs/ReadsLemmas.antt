@@ -2,7 +2,6 @@
 use Rattle.std.proofs.Common.{◌≡◌, ℕ, ◌≤◌, List, length, Option, Some, None, Result, Ok, Err, refl, sym, ◌∙◌, ap, subst, arith, true≢false}
 use Rattle.std.specs.Prelude.{IfOk, IfSome, IsErr}
 use Rattle.rp_base.specs.declared.faults.Failed.{Failed}
-use Rattle.rp_base.specs.Faults.{HasCause, Rose}
 use Rattle.rp_disk.specs.History.{History, held}
 use Rattle.rp_disk.specs.Made.{Made, history_told}
 use Rattle.rp_tree.specs.Reads.{Reads}

@@ -1,5 +1,5 @@
 -- What the superblock and the top say of a tree.
-use Rattle.std.proofs.Common.{◌≡◌, ◌≢◌, Bool, List, ℕ, false, Option, Some, None, true, ◌+◌, ◌-◌, ◌*◌, ◌/◌, ◌^◌, ◌≤◌, refl, sym, ◌∙◌, ap, arith}
+use Rattle.std.proofs.Common.{◌≡◌, ◌≢◌, Bool, List, ℕ, false, Option, Some, None, true, ◌+◌, ◌-◌, ◌*◌, ◌/◌, ◌^◌, ◌≤◌, refl, ◌∙◌, ap, arith}
 use Rattle.std.specs.Prelude.{MatchOption, option_map, if◌then◌else◌}
 use Rattle.std.specs.Option.{option_or}
 use Rattle.std.proofs.lemmas.Bool.{ne_eqb}
@@ -12,7 +12,7 @@ use Rattle.rp_tree.proofs.Counts.{levels-some}
 use Rattle.rp_base.specs.declared.table.Row.{Row}
 use Rattle.rp_tree.specs.declared.bad.Bad.{Bad}
 use Rattle.rp_tree.specs.declared.bad.Bad.TheVariants as bads
-use Rattle.rp_tree.specs.declared.check.Tree.{Tree}
+use Rattle.rp_tree.specs.declared.tree.Tree.{Tree}
 use Rattle.rp_tree.specs.Checked.{bad_in, begin_of, first_bad, first_wrong, has_root, is_rooted, salt_of, superblock_of, wrong_block, wrong_hash}
 use Rattle.rp_tree.specs.Standing.{IsShape, IsTreeOf}
 

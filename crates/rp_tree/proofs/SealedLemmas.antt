@@ -1,10 +1,7 @@
 -- Nothing is wrong of a tree that is stored.
-use Rattle.std.proofs.Common.{◌≡◌, ◌≢◌, ℕ, zero, suc, ◌+◌, ◌-◌, ◌*◌, ◌/◌, ◌%◌, ◌^◌, ◌<◌, ◌≤◌, ◌==◌, Bool, true, false, List, [], ◌∷◌, ◌++◌, Option, Some, None, length, take, drop, get_or, map, replicate, inl, inr, refl, min, sym, ◌∙◌, ap, arith, append_assoc, length-drop, length-take}
-use Rattle.std.specs.Prelude.{All, find, not, option_map, unwrap_or, if◌then◌else◌}
-use Rattle.std.specs.Option.{option_or}
+use Rattle.std.proofs.Common.{◌≡◌, ℕ, zero, suc, ◌+◌, ◌-◌, ◌*◌, ◌/◌, ◌%◌, ◌<◌, ◌≤◌, Bool, true, false, List, [], ◌∷◌, ◌++◌, Some, None, length, take, drop, get_or, map, replicate, inl, inr, refl, min, sym, ◌∙◌, ap, arith, append_assoc, length-drop, length-take}
+use Rattle.std.specs.Prelude.{find, not}
 use Rattle.std.specs.List.{concat, range_with_len}
-use Rattle.std.specs.Str.{bytes_eq}
-use Rattle.std.proofs.lemmas.Bool.{ne_eqb}
 use Rattle.std.proofs.lemmas.Bool.Decides.{eqb_tells}
 use Rattle.std.proofs.lemmas.List.{drop-append-le, drop-drop, drop_all, get_or-drop, get_or-map, get_or-take, get_or_append_left, length-map, take-append-le, take_all}
 use Rattle.std.proofs.lemmas.List.Elements.{All-head, All-tail}
@@ -13,8 +10,6 @@ use Rattle.rp_base.specs.declared.guid.Guid.{Guid}
 use Rattle.rp_base.specs.declared.table.Row.{Row}
 use Rattle.rp_base.specs.Image.{bytes_at}
 use Rattle.rp_base.specs.Trees.{hash_blocks, levels}
-use Rattle.rp_verity.specs.Superblock.{FitIn, superblock, superblock_in}
-use Rattle.rp_verity.specs.declared.superblock.Superblock.{Superblock}
 use Rattle.rp_verity.specs.Tree.{digest, hash_block, level, raised, root_hash, run, runs, stored, stored_tree, tops}
 use Rattle.rp_verity.specs.Order.{blocks_over}
 use Rattle.rp_verity.specs.Room.{AreDigests, IsDigest}
@@ -23,7 +18,7 @@ use Rattle.rp_verity.proofs.LevelLemmas.{length-level}
 use Rattle.rp_verity.proofs.ShapeLemmas.{hash_blocks-over, length-stored}
 use Rattle.rp_verity.proofs.SuperblockLemmas.{written-right, written-salt}
 use Rattle.rp_verity.proofs.TreeLemmas.{get_or-level, get_or-stored}
-use Rattle.rp_tree.specs.Checked.{begin_of, block_of, first_bad, first_wrong, has_root, is_rooted, is_wrong, salt_of, stored_for, superblock_of, top_of, wrong_block, wrong_data, wrong_hash}
+use Rattle.rp_tree.specs.Checked.{begin_of, block_of, first_bad, first_wrong, has_root, is_rooted, is_wrong, salt_of, stored_for, superblock_of, top_of, wrong_block, wrong_hash}
 use Rattle.rp_tree.specs.Sealed.{IsSealed}
 use Rattle.rp_tree.proofs.Counts.{levels-some, some_blocks}
 use Rattle.rp_tree.proofs.RangeLemmas.{part-part}

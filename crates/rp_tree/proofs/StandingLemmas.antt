@@ -1,5 +1,5 @@
 -- What stands in the room while a tree is checked, a block at a time.
-use Rattle.std.proofs.Common.{◌≡◌, ◌≢◌, ℕ, zero, suc, ◌+◌, ◌-◌, ◌*◌, ◌/◌, ◌%◌, ◌^◌, ◌<◌, ◌≤◌, Bool, true, false, List, [], ◌∷◌, ◌++◌, Option, Some, None, length, take, drop, replicate, get_or, refl, sym, ◌∙◌, ap, arith, length-drop}
+use Rattle.std.proofs.Common.{◌≡◌, ℕ, zero, suc, ◌+◌, ◌-◌, ◌*◌, ◌/◌, ◌%◌, ◌^◌, ◌<◌, ◌≤◌, Bool, true, false, List, [], ◌∷◌, ◌++◌, Option, Some, None, length, take, drop, replicate, get_or, refl, sym, ◌∙◌, ap, arith, length-drop}
 use Rattle.std.specs.Prelude.{find, not, option_map, if◌then◌else◌}
 use Rattle.std.specs.Option.{option_or}
 use Rattle.std.specs.List.{range_with_len}
@@ -10,7 +10,7 @@ use Rattle.rp_base.specs.Image.{bytes_at}
 use Rattle.rp_verity.specs.Tree.{digest, runs}
 use Rattle.rp_verity.specs.Order.{blocks_over}
 use Rattle.rp_verity.proofs.ShapeLemmas.{div-pow-suc}
-use Rattle.rp_tree.specs.Checked.{begin_of, block_of, first_wrong, is_wrong, stored_for, wrong_hash}
+use Rattle.rp_tree.specs.Checked.{begin_of, block_of, is_wrong, stored_for, wrong_hash}
 use Rattle.rp_tree.specs.Standing.{IsNoted, IsShape, Stands, above_of, noted}
 use Rattle.rp_tree.proofs.RangeLemmas.{find-one_more, part-front, part-part}
 

@@ -1,18 +1,20 @@
 -- What stands in the room while a tree is checked: serves this crate's proofs.
 use Rattle.std.specs.Prelude.{ℕ, zero, suc, ◌≡◌, ◌≢◌, ◌≤◌, ◌+◌, ◌-◌, ◌*◌, ◌/◌, ◌^◌, List, [], ◌∷◌, Bool, true, false, Option, Some, None, take, drop, option_map, slice_index_or}
 use Rattle.std.specs.Option.{option_or}
-use Rattle.sha2.specs.Hashers.{Holds256}
 use Rattle.rp_base.specs.declared.table.Row.{Row}
-use Rattle.rp_verity.specs.Superblock.{FitIn}
 use Rattle.rp_verity.specs.Tree.{runs}
 use Rattle.rp_verity.specs.Order.{blocks_over}
-use Rattle.rp_tree.specs.declared.check.Tree.{Tree}
+use Rattle.rp_tree.specs.declared.tree.Tree.{Tree}
 use Rattle.rp_tree.specs.Checked.{begin_of, block_of, first_wrong, salt_of, superblock_of}
 
--- a tree has the superblock of these rows, and has taken its salt
+-- the salt that a tree has
+abbrev pub salt_kept : Tree → List ℕ
+salt_kept tree = take tree.said.salt_size tree.salt
+
+-- a tree has the superblock of these rows, and its salt
 pub record IsTreeOf (image : List ℕ) (payload hash : Row) (tree : Tree) : Type 0 where
   pub said : superblock_of image payload hash ≡ Some tree.said
-  pub salted : Holds256 tree.salted (salt_of image hash tree.said)
+  pub salt : salt_kept tree ≡ salt_of image hash tree.said
 
 -- so many levels over so many digests fit in their row and end in one block; there is a room and a note for each
 pub record IsShape (hash : Row) (levels digests room notes : ℕ) : Type 0 where

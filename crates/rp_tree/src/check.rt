@@ -1,39 +1,34 @@
 //! The calls that check a tree.
 
-ghost use Rattle.std.specs.Prelude.{◌≡◌, ◌+◌, ◌-◌, ◌*◌, ◌^◌, ◌≢◌, ◌≤◌, ◌++◌, Some, None, IfSome, IfOk, MatchOption, OnOk, drop, length, option_map, if◌then◌else◌};
+ghost use Rattle.std.specs.Prelude.{◌≡◌, ◌+◌, ◌-◌, ◌*◌, ◌^◌, ◌≢◌, ◌≤◌, ◌++◌, Some, None, IfSome, IfOk, MatchOption, OnOk, drop, length, option_map, take, if◌then◌else◌};
 ghost use Rattle.std.specs.Option.{option_or};
 ghost use Rattle.rp_base.specs.Faults.{HasCause};
 ghost use Rattle.rp_base.specs.Trees.{levels as levels_of};
 ghost use Rattle.rp_disk.specs.History.{held};
 ghost use Rattle.rp_disk.specs.Made.{history_told};
 ghost use Rattle.rp_verity.specs.Superblock.{FitIn, salt_in, superblock_in};
-ghost use Rattle.sha2.specs.Hashers.{Holds256};
 ghost use Rattle.rp_tree.specs.Reads.{Reads, end_of, ends_of};
 ghost use Rattle.rp_tree.specs.Checked.{bad_in, block_of, first_bad, has_root, is_rooted, superblock_of, salt_of, top_of, wrong_block};
-ghost use Rattle.rp_tree.specs.Standing.{IsShape, IsTreeOf};
+ghost use Rattle.rp_tree.specs.Standing.{IsShape, IsTreeOf, salt_kept};
 
 use crate::Bad;
 use crate::level::{first_noted, next_block};
 use crate::read::read_blocks;
 use crate::right::is_right;
 use crate::run::data_under;
+use crate::tree::Tree;
 use rp_base::{Failed, Row};
 use rp_disk::Disk;
-use rp_verity::{BLOCK, DIGEST, SALT, Superblock, levels, read_superblock, runs};
-use sha2::{Digest, Sha256};
-
-/// Blocks of the room that is used.
-const ROOM: usize = 6;
+use rp_verity::{BLOCK, DIGEST, MOST_SALT, SALT, levels, read_superblock, runs};
 
 /// The most levels of a tree.
 const MOST_LEVELS: usize = 5;
 
-/// What a superblock says, and a hasher that has taken its salt.
-#[derive(Drop)]
-pub(crate) struct Tree {
-    pub(crate) said: Superblock,
-    pub(crate) salted: Sha256,
-}
+/// Bytes of a room that is enough for every tree: a block for each level, and one for data.
+pub const ROOM: usize = BLOCK * (MOST_LEVELS + 1);
+
+/// Bytes of a room in which every tree has 8 blocks or more for data, which are read and hashed together.
+pub const WIDE_ROOM: usize = 65536;
 
 /// Whether the superblock of a hash row is right for it and its data row, and the digest of the topmost block, or of the
 /// only data block, is the identifier of the data row with that of the hash row behind it. The room has 6 blocks. A row
@@ -64,7 +59,8 @@ pub fn check_root<D: Disk>(
 
 /// What is wrong first of the tree in a hash row over its data row: the superblock, the digest of the top, then the hash
 /// blocks and then the data blocks, each by place. Nothing exactly where all digests are right. Each block is read once.
-/// The room has 6 blocks. A row that ends past the disk's end is met by a fault where it is read.
+/// The room has 6 blocks or more: those that the levels don't need are filled with data blocks at once. A row that ends
+/// past the disk's end is met by a fault where it is read.
 pub fn check_all<D: Disk>(
     disk: &mut D,
     payload: &Row,
@@ -86,8 +82,7 @@ pub fn check_all<D: Disk>(
     let Some(tree) = read_tree(disk, payload, hash, block)? else {
         return Ok(Some(Bad::Superblock));
     };
-    let (six, _) = room.split_at_mut(BLOCK * ROOM);
-    check_tree(disk, payload, hash, &tree, six)
+    check_tree(disk, payload, hash, &tree, room)
 }
 
 // The tree that a hash row has for a data row, if its superblock is right.
@@ -113,13 +108,25 @@ fn read_tree<D: Disk>(
 fn tree_in(block: &[u8], payload: &Row, hash: &Row) -> Option<Tree>
     requires { length block.now ≡ 4096 }
     ensures tree { MatchOption result (superblock_in block.now payload.now hash.now ≡ None)
-        (λ tree. (superblock_in block.now payload.now hash.now ≡ Some tree.said) × Holds256 tree.salted (salt_in block.now tree.said.salt_size)) }
+        (λ tree. (superblock_in block.now payload.now hash.now ≡ Some tree.said) × (salt_kept tree ≡ salt_in block.now tree.said.salt_size)) }
     ensures fits { IfSome result (λ tree. FitIn tree.said.blocks payload.now hash.now) }
 {
     let said = read_superblock(block, payload, hash)?;
-    let mut salted = Sha256::new();
-    salted.update(&block[SALT..SALT + said.salt_size as usize]);
-    Some(Tree { said, salted })
+    let salt = salt_in(block, said.salt_size);
+    Some(Tree { said, salt })
+}
+
+// The salt of this size in a superblock's block, with zeros behind it.
+fn salt_in(block: &[u8], size: u16) -> [u8; MOST_SALT as usize]
+    requires block { length block.now ≡ 4096 }
+    requires size { size ≤ 256 }
+    ensures { take size result ≡ salt_in block.now size }
+{
+    let size = size as usize;
+    let mut salt = [0; MOST_SALT as usize];
+    let (front, _) = salt.split_at_mut(size);
+    front.copy_from_slice(&block[SALT..SALT + size]);
+    salt
 }
 
 // Whether the root hash of a tree is the identifiers of its rows. The block whose digest it is is left in the room.
@@ -140,7 +147,7 @@ fn is_rooted<D: Disk>(
         → IfOk result (λ right. right ≡ is_rooted (held h) payload.now hash.now tree.now.said)) }
 {
     read_top(disk, payload, hash, tree.said.blocks, block)?;
-    Ok(is_right(&tree.salted, block, &root_of(payload, hash), 0))
+    Ok(is_right(tree.salt(), block, &root_of(payload, hash), 0))
 }
 
 // Reads the topmost block, or the only data block.
@@ -188,7 +195,7 @@ fn check_tree<D: Disk>(
     requires fits { FitIn tree.now.said.blocks payload.now hash.now }
     requires payload_end { payload.now.start + payload.now.size ≤ 2 ^ 35 }
     requires hash_end { hash.now.start + hash.now.size ≤ 2 ^ 35 }
-    requires room { length room.old ≡ 24576 }
+    requires room { 24576 ≤ length room.old }
     ensures reads { Reads (ends_of payload.now hash.now) (D.first disk.old) (D.first disk.new) (D.calls disk.old) (D.calls disk.new) (D.strays disk.old) (D.strays disk.new) (D.faults disk.old) (D.faults disk.new) result }
     ensures bad { IfSome (history_told (D.first disk.old) (D.calls disk.old)) (λ h. IsTreeOf (held h) payload.now hash.now tree.now
         → IfOk result (λ bad. bad ≡ bad_in (held h) payload.now hash.now tree.now.said)) }
@@ -199,12 +206,12 @@ fn check_tree<D: Disk>(
         return Ok(top_bad(rooted));
     }
     let count = levels(tree.said.blocks);
-    let (buffer, standing) = room.split_at_mut(BLOCK * (ROOM - count as usize));
+    let (standing, buffer) = room.split_at_mut(BLOCK * count as usize);
     let rooted = top_stands(disk, payload, hash, tree, count, standing)?;
     if !rooted {
         return Ok(Some(Bad::Top));
     }
-    check_blocks(disk, payload, hash, tree, count, buffer, standing)
+    check_blocks(disk, payload, hash, tree, count, standing, buffer)
 }
 
 // What is wrong of a tree without hash blocks.
@@ -246,8 +253,8 @@ fn check_blocks<D: Disk>(
     hash: &Row,
     tree: &Tree,
     count: u32,
-    buffer: &mut [u8],
     standing: &mut [u8],
+    buffer: &mut [u8],
 ) -> Result<Option<Bad>, Failed>
     requires fits { FitIn tree.now.said.blocks payload.now hash.now }
     requires more { tree.now.said.blocks ≢ 1 }
@@ -263,30 +270,13 @@ fn check_blocks<D: Disk>(
         → IfOk result (λ bad. bad ≡ wrong_block (held h) (salt_of (held h) hash.now tree.now.said) payload.now hash.now tree.now.said.blocks)) }
 {
     let blocks = tree.said.blocks;
+    let salt = tree.salt();
     let mut notes = [None; MOST_LEVELS];
     let mut found = None;
     for index in 0..runs(blocks) {
-        next_block(
-            disk,
-            hash,
-            &tree.salted,
-            count,
-            blocks,
-            index,
-            standing,
-            &mut notes,
-        )?;
+        next_block(disk, hash, salt, count, blocks, index, standing, &mut notes)?;
         let (digests, _) = standing.split_at(BLOCK);
-        let now = data_under(
-            disk,
-            payload,
-            &tree.salted,
-            blocks,
-            index,
-            found,
-            digests,
-            buffer,
-        )?;
+        let now = data_under(disk, payload, salt, blocks, index, found, digests, buffer)?;
         found = now;
     }
     Ok(block_bad(first_noted(count, &notes), found))

@@ -1,7 +1,6 @@
 //! The hash blocks of a tree, one of each level at a time, the topmost one being there already.
 
 ghost use Rattle.std.specs.Prelude.{◌≡◌, ◌+◌, ◌-◌, ◌*◌, ◌/◌, ◌%◌, ◌^◌, ◌<◌, ◌≤◌, ℕ, List, IfSome, OnOk, drop, length};
-ghost use Rattle.sha2.specs.Hashers.{Holds256};
 ghost use Rattle.rp_base.specs.declared.table.Row.{Row as ARow};
 ghost use Rattle.rp_disk.specs.History.{held};
 ghost use Rattle.rp_disk.specs.Made.{history_told};
@@ -16,73 +15,74 @@ use crate::right::is_right;
 use rp_base::{Failed, Row};
 use rp_disk::Disk;
 use rp_verity::{BLOCK, DIGEST, FAN, blocks_over, runs};
-use sha2::Sha256;
 
 /// Reads the next block, which has this index, of the lowest of so many levels over so many digests, and first that of each
 /// level above of which the next one is wanted. Notes of each level the first block that is wrong.
 pub(crate) fn next_block<D: Disk>(
     disk: &mut D,
     hash: &Row,
-    salted: &Sha256,
+    salt: &[u8],
     levels: u32,
     total: u64,
     index: u64,
     room: &mut [u8],
     notes: &mut [Option<u64>],
 ) -> Result<(), Failed>
+    requires salt { length salt.now ≤ 256 }
     requires shape { IsShape hash.now levels total (length room.old) (length notes.old) }
     requires index { index < runs_of total }
     ensures reads { Reads (end_of hash.now) (D.first disk.old) (D.first disk.new) (D.calls disk.old) (D.calls disk.new) (D.strays disk.old) (D.strays disk.new) (D.faults disk.old) (D.faults disk.new) result }
-    ensures stands { IfSome (history_told (D.first disk.old) (D.calls disk.old)) (λ h. (salt : List ℕ) → Holds256 salted.now salt
-        → Stands (held h) salt hash.now levels total index room.old notes.old
-        → OnOk result (Stands (held h) salt hash.now levels total (index + 1) room.new notes.new)) }
+    ensures stands { IfSome (history_told (D.first disk.old) (D.calls disk.old)) (λ h.
+        Stands (held h) salt.now hash.now levels total index room.old notes.old
+        → OnOk result (Stands (held h) salt.now hash.now levels total (index + 1) room.new notes.new)) }
 {
     if levels == 1 {
         return Ok(());
     }
     if index % FAN != 0 {
-        return own_block(disk, hash, salted, levels, total, index, room, notes);
+        return own_block(disk, hash, salt, levels, total, index, room, notes);
     }
     let (_, above) = room.split_at_mut(BLOCK);
     let (_, higher) = notes.split_at_mut(1);
     next_block(
         disk,
         hash,
-        salted,
+        salt,
         levels - 1,
         runs(total),
         index / FAN,
         above,
         higher,
     )?;
-    own_block(disk, hash, salted, levels, total, index, room, notes)
+    own_block(disk, hash, salt, levels, total, index, room, notes)
 }
 
 // The same, where the block above it is there.
 fn own_block<D: Disk>(
     disk: &mut D,
     hash: &Row,
-    salted: &Sha256,
+    salt: &[u8],
     levels: u32,
     total: u64,
     index: u64,
     room: &mut [u8],
     notes: &mut [Option<u64>],
 ) -> Result<(), Failed>
+    requires salt { length salt.now ≤ 256 }
     requires shape { IsShape hash.now levels total (length room.old) (length notes.old) }
     requires more { 2 ≤ levels }
     requires index { index < runs_of total }
     ensures reads { Reads (end_of hash.now) (D.first disk.old) (D.first disk.new) (D.calls disk.old) (D.calls disk.new) (D.strays disk.old) (D.strays disk.new) (D.faults disk.old) (D.faults disk.new) result }
-    ensures stands { IfSome (history_told (D.first disk.old) (D.calls disk.old)) (λ h. (salt : List ℕ) → Holds256 salted.now salt
-        → IsNoted (held h) salt hash.now levels total index notes.old
-        → Stands (held h) salt hash.now (levels - 1) (runs_of total) (index / 128 + 1) (drop 4096 room.old) (drop 1 notes.old)
-        → OnOk result (Stands (held h) salt hash.now levels total (index + 1) room.new notes.new)) }
+    ensures stands { IfSome (history_told (D.first disk.old) (D.calls disk.old)) (λ h.
+        IsNoted (held h) salt.now hash.now levels total index notes.old
+        → Stands (held h) salt.now hash.now (levels - 1) (runs_of total) (index / 128 + 1) (drop 4096 room.old) (drop 1 notes.old)
+        → OnOk result (Stands (held h) salt.now hash.now levels total (index + 1) room.new notes.new)) }
 {
     let (block, above) = room.split_at_mut(BLOCK);
     let number = 1 + blocks_over(levels - 1, runs(total)) + index;
     read_blocks(disk, hash, number, block)?;
     let at = DIGEST * (index % FAN) as usize;
-    note(notes, number, is_right(salted, block, above, at));
+    note(notes, number, is_right(salt, block, above, at));
     Ok(())
 }
 

@@ -8,6 +8,8 @@ mod level;
 mod read;
 mod right;
 mod run;
+mod tree;
 
 pub use bad::Bad;
-pub use check::{check_all, check_root};
+pub use check::{ROOM, WIDE_ROOM, check_all, check_root};
+pub use rp_verity::BLOCK_UNITS;

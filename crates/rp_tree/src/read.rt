@@ -6,14 +6,9 @@ ghost use Rattle.rp_disk.specs.History.{held};
 ghost use Rattle.rp_disk.specs.Made.{history_told};
 ghost use Rattle.rp_tree.specs.Reads.{Reads, end_of};
 
-use rp_base::{Failed, Row};
+use rp_base::{Failed, Row, SECTOR};
 use rp_disk::Disk;
-
-/// Bytes of a unit, in which rows count.
-const UNIT: u64 = 512;
-
-/// Bytes of a block.
-const BLOCK: u64 = 4096;
+use rp_verity::BLOCK;
 
 /// Fills the buffer with the blocks of a row from the one with this number on.
 pub(crate) fn read_blocks<D: Disk>(
@@ -27,5 +22,5 @@ pub(crate) fn read_blocks<D: Disk>(
     ensures reads { Reads (end_of row.now) (D.first disk.old) (D.first disk.new) (D.calls disk.old) (D.calls disk.new) (D.strays disk.old) (D.strays disk.new) (D.faults disk.old) (D.faults disk.new) result }
     ensures bytes { IfSome (history_told (D.first disk.old) (D.calls disk.old)) (λ h. OnOk result (buf.new ≡ bytes_at (held h) (512 * row.now.start + 4096 * number) (length buf.old))) }
 {
-    disk.read(UNIT * row.start + BLOCK * number, buf)
+    disk.read(SECTOR * row.start + BLOCK as u64 * number, buf)
 }

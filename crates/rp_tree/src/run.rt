@@ -1,9 +1,8 @@
 //! The data blocks under one hash block.
 
-ghost use Rattle.std.specs.Prelude.{◌≡◌, ◌+◌, ◌-◌, ◌*◌, ◌/◌, ◌^◌, ◌<◌, ◌≤◌, ℕ, List, IfSome, IfOk, find, length, min, not, option_map};
+ghost use Rattle.std.specs.Prelude.{◌≡◌, ◌+◌, ◌-◌, ◌*◌, ◌%◌, ◌^◌, ◌<◌, ◌≤◌, ℕ, IfSome, IfOk, find, length, min, nat_le, not, option_map, if◌then◌else◌};
 ghost use Rattle.std.specs.List.{range_with_len};
 ghost use Rattle.std.specs.Str.{bytes_eq};
-ghost use Rattle.sha2.specs.Hashers.{Holds256};
 ghost use Rattle.rp_base.specs.Image.{bytes_at};
 ghost use Rattle.rp_disk.specs.History.{held};
 ghost use Rattle.rp_disk.specs.Made.{history_told};
@@ -16,21 +15,21 @@ use crate::read::read_blocks;
 use crate::right::first_wrong;
 use rp_base::{Failed, Row};
 use rp_disk::Disk;
-use rp_verity::{BLOCK, DIGEST, FAN};
-use sha2::Sha256;
+use rp_verity::{BLOCK, DIGEST, FAN, LANES};
 
 /// The first wrong data block, where those under the hash blocks before were looked at and the digests of the hash block
 /// with this index are at hand. The buffer has a block or more.
 pub(crate) fn data_under<D: Disk>(
     disk: &mut D,
     payload: &Row,
-    salted: &Sha256,
+    salt: &[u8],
     blocks: u64,
     index: u64,
     found: Option<u64>,
     digests: &[u8],
     buffer: &mut [u8],
 ) -> Result<Option<u64>, Failed>
+    requires salt { length salt.now ≤ 256 }
     requires row { payload.now.start + payload.now.size ≤ 2 ^ 35 }
     requires few { blocks ≤ 2 ^ 32 }
     requires fit { 8 * blocks ≤ payload.now.size }
@@ -38,17 +37,17 @@ pub(crate) fn data_under<D: Disk>(
     requires digests { length digests.now ≡ 4096 }
     requires buffer { 4096 ≤ length buffer.old }
     ensures reads { Reads (end_of payload.now) (D.first disk.old) (D.first disk.new) (D.calls disk.old) (D.calls disk.new) (D.strays disk.old) (D.strays disk.new) (D.faults disk.old) (D.faults disk.new) result }
-    ensures found { IfSome (history_told (D.first disk.old) (D.calls disk.old)) (λ h. (salt : List ℕ) (hash : ARow) (begin : ℕ)
-        → Holds256 salted.now salt → digests.now ≡ block_of (held h) hash (begin + index)
-        → found ≡ first_wrong_of (held h) salt payload.now 0 (128 * index) hash begin
-        → IfOk result (λ now. now ≡ first_wrong_of (held h) salt payload.now 0 (min (128 * index + 128) blocks) hash begin)) }
+    ensures found { IfSome (history_told (D.first disk.old) (D.calls disk.old)) (λ h. (hash : ARow) (begin : ℕ)
+        → digests.now ≡ block_of (held h) hash (begin + index)
+        → found ≡ first_wrong_of (held h) salt.now payload.now 0 (128 * index) hash begin
+        → IfOk result (λ now. now ≡ first_wrong_of (held h) salt.now payload.now 0 (min (128 * index + 128) blocks) hash begin)) }
 {
     if found.is_some() {
         return Ok(found);
     }
     let first = FAN * index;
     let count = (blocks - first).min(FAN);
-    let wrong = wrong_in(disk, payload, salted, first, count, digests, buffer)?;
+    let wrong = wrong_in(disk, payload, salt, first, count, digests, buffer)?;
     Ok(shifted(wrong, first))
 }
 
@@ -67,12 +66,13 @@ fn shifted(index: Option<u64>, first: u64) -> Option<u64>
 fn wrong_in<D: Disk>(
     disk: &mut D,
     payload: &Row,
-    salted: &Sha256,
+    salt: &[u8],
     first: u64,
     count: u64,
     digests: &[u8],
     buffer: &mut [u8],
 ) -> Result<Option<u64>, Failed>
+    requires salt { length salt.now ≤ 256 }
     requires row { payload.now.start + payload.now.size ≤ 2 ^ 35 }
     requires fit { 8 * (first + count) ≤ payload.now.size }
     requires count { count ≤ 128 }
@@ -80,20 +80,34 @@ fn wrong_in<D: Disk>(
     requires buffer { 4096 ≤ length buffer.old }
     ensures reads { Reads (end_of payload.now) (D.first disk.old) (D.first disk.new) (D.calls disk.old) (D.calls disk.new) (D.strays disk.old) (D.strays disk.new) (D.faults disk.old) (D.faults disk.new) result }
     ensures inside { IfOk result (λ found. IfSome found (λ k. k < count)) }
-    ensures found { IfSome (history_told (D.first disk.old) (D.calls disk.old)) (λ h. (salt : List ℕ) → Holds256 salted.now salt
-        → IfOk result (λ found. found ≡ find (λ k. not (bytes_eq (digest salt (block_of (held h) payload.now (first + k))) (bytes_at digests.now (32 * k) 32))) (range_with_len 0 count))) }
+    ensures found { IfSome (history_told (D.first disk.old) (D.calls disk.old)) (λ h.
+        IfOk result (λ found. found ≡ find (λ k. not (bytes_eq (digest salt.now (block_of (held h) payload.now (first + k))) (bytes_at digests.now (32 * k) 32))) (range_with_len 0 count))) }
 {
-    let most = buffer.len() / BLOCK;
+    let most = whole_lanes(buffer.len() / BLOCK);
     let mut done = 0;
     'pieces: while done < count {
         let step = (count - done).min(most as u64);
         let piece = &mut buffer[..BLOCK * step as usize];
         read_blocks(disk, payload, first + done, piece)?;
         let rest = &digests[DIGEST * done as usize..];
-        if let Some(k) = first_wrong(salted, piece, step as usize, rest) {
+        if let Some(k) = first_wrong(salt, piece, step as usize, rest) {
             return Ok(Some(done + k as u64));
         }
         done += step;
     }
     Ok(None)
+}
+
+// How many blocks are read at once where there is room for so many: as many as fill their lanes, if there are any.
+fn whole_lanes(room: usize) -> usize
+    requires { 1 ≤ room }
+    ensures value { result ≡ (if nat_le 4 room then room - room % 4 else room) }
+    ensures some { 1 ≤ result }
+    ensures fits { result ≤ room }
+{
+    if room >= LANES {
+        room - room % LANES
+    } else {
+        room
+    }
 }

@@ -13,7 +13,6 @@ mod tree;
 
 pub use builder::Builder;
 pub use out::{Nowhere, TreeOut};
-pub use shape::{BLOCK, DIGEST, FAN, blocks_over, hash_blocks, levels, runs};
+pub use shape::{BLOCK, BLOCK_UNITS, DIGEST, FAN, LANES, blocks_over, hash_blocks, levels, runs};
 pub use sources::root_of;
-pub use superblock::{SALT, Superblock, read_superblock, write_superblock};
-pub use tree::digest_of;
+pub use superblock::{MOST_SALT, SALT, Superblock, read_superblock, write_superblock};

@@ -12,6 +12,12 @@ pub const DIGEST: usize = 32;
 /// Digests in a hash block.
 pub const FAN: u64 = 128;
 
+/// Units of 512 bytes in a block.
+pub const BLOCK_UNITS: u64 = 8;
+
+/// Blocks that are hashed at once, each in a lane.
+pub const LANES: usize = 4;
+
 /// How many levels of hash blocks stand over so many data blocks: none over one. There are 1 to 2^32 data blocks.
 pub fn levels(blocks: u64) -> u32
     requires some { 1 ≤ blocks }

@@ -7,14 +7,11 @@ ghost use Rattle.rp_verity.specs.Builder.{HasTaken, IsBuilder, blocks_of, pushed
 ghost use Rattle.rp_verity.specs.Tree.{digest as digest_of, root_hash};
 ghost use Rattle.rp_verity.specs.Filled.{cut, filled};
 
-use crate::shape::{BLOCK, DIGEST};
+use crate::shape::{BLOCK, DIGEST, LANES};
 use crate::{Builder, Nowhere};
 use rp_base::Failed;
 use rp_io::Sources;
 use rp_lanes::digest_blocks;
-
-/// Blocks that are read and hashed at once.
-const RUN: usize = 4;
 
 /// The root hash of a source's first `len` bytes with zeros behind them up to `blocks` blocks, 1 to 2^32. The room has at
 /// least `levels + 1` blocks of 4,096 bytes.
@@ -38,11 +35,11 @@ pub fn root_of<S: Sources>(
     ensures cause { HasCause (S.faults sources.old) (S.faults sources.new) result }
 {
     let mut builder = Builder::new(blocks, salt, room);
-    let mut buffer = [0; RUN * BLOCK];
-    let mut digests = [[0; DIGEST]; RUN];
-    'runs: for turn in 0..(blocks + (RUN as u64 - 1)) / RUN as u64 {
-        let k = RUN as u64 * turn;
-        let count = (blocks - k).min(RUN as u64) as usize;
+    let mut buffer = [0; LANES * BLOCK];
+    let mut digests = [[0; DIGEST]; LANES];
+    'runs: for turn in 0..(blocks + (LANES as u64 - 1)) / LANES as u64 {
+        let k = LANES as u64 * turn;
+        let count = (blocks - k).min(LANES as u64) as usize;
         let run = &mut buffer[..BLOCK * count];
         read_run(sources, path, len, k, run)?;
         let digests = &mut digests[..count];

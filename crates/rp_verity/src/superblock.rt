@@ -5,7 +5,7 @@ ghost use Rattle.std.specs.Int.{w64, to_le_bytes};
 ghost use Rattle.std.specs.Bool.{OnTrue};
 ghost use Rattle.rp_verity.specs.Superblock.{FitIn, blocks_in, fits, is_headed, salt_size_in, superblock, superblock_in};
 
-use crate::shape::hash_blocks;
+use crate::shape::{BLOCK_UNITS, hash_blocks};
 use rp_base::{Guid, Row};
 
 /// The signature, version 1, hash type 1.
@@ -23,7 +23,7 @@ const FORM: [u8; 40] = [
 const SALT_SIZE: [u8; 8] = [32, 0, 0, 0, 0, 0, 0, 0];
 
 /// The most bytes of salt that a superblock has room for.
-const MOST_SALT: u16 = 256;
+pub const MOST_SALT: u16 = 256;
 
 /// The most data blocks of a tree.
 const MOST_BLOCKS: u64 = 1 << 32;
@@ -41,9 +41,6 @@ const SALT_LEN: usize = 80;
 pub const SALT: usize = 88;
 
 const SALT_END: usize = 120;
-
-/// Units of 512 bytes in a block.
-const UNITS: u64 = 8;
 
 /// What a superblock says of its tree: how many data blocks it is over, and how many bytes of salt stand in the block from
 /// byte 88 on.
@@ -152,6 +149,6 @@ fn fits(blocks: u64, payload: &Row, hash: &Row) -> bool
 {
     blocks >= 1
         && blocks <= MOST_BLOCKS
-        && UNITS * blocks <= payload.size
-        && UNITS * hash_blocks(blocks) <= hash.size
+        && BLOCK_UNITS * blocks <= payload.size
+        && BLOCK_UNITS * hash_blocks(blocks) <= hash.size
 }

@@ -13,7 +13,7 @@ use rp_base::Failed;
 use sha2::{Digest, Sha256};
 
 /// The digest of a block, by a hasher that has taken the salt.
-pub fn digest_of(salted: &Sha256, block: &[u8]) -> [u8; DIGEST]
+pub(crate) fn digest_of(salted: &Sha256, block: &[u8]) -> [u8; DIGEST]
     ensures { (salt : List ℕ) → Holds256 salted.now salt → result ≡ digest salt block.now }
 {
     let mut hasher = copy_of(salted);

@@ -1,10 +1,9 @@
 -- One hash block of the lowest level after another, with the data blocks under it.
-use Rattle.std.proofs.Common.{◌≡◌, ◌≤◌, ◌+◌, ◌-◌, ◌*◌, ◌<◌, ℕ, Ok, length, take, min, refl, sym, arith}
-use Rattle.sha2.specs.Hashers.{Holds256}
+use Rattle.std.proofs.Common.{◌≡◌, ◌*◌, ℕ, List, Ok, length, take, min, refl, sym, ◌∙◌, ap, arith}
 use Rattle.rp_disk.specs.History.{held}
 use Rattle.rp_disk.specs.Made.{history_told}
 use Rattle.rp_verity.specs.Tree.{runs}
-use Rattle.rp_tree.specs.Checked.{salt_of}
+use Rattle.rp_tree.specs.Checked.{salt_of, wrong_block}
 use Rattle.rp_tree.specs.Reads.{end_of, ends_of}
 use Rattle.rp_tree.proofs.BlockLemmas.{Found, StandsSo, both-more}
 use Rattle.rp_tree.proofs.NextLemmas.{NextGoes}
@@ -15,12 +14,13 @@ use Rattle.rp_tree.proofs.check.check_blocks.Goals as goal
 
 pub loop-index-init : goal.loop-index-init
 loop-index-init g c =
+    let salt : List ℕ = c.salt-salt.result.now in
     let zero : min (128 * 0) c.args.tree.now.said.blocks ≡ 0 = omega arith in
     record {
       notes = refl;
       reads = reads-none _ _ _ _ _ tt;
       stands = always (history_told (g.D.Disk.first c.args.disk.now) (g.D.Disk.calls c.args.disk.now))
-          (λ h salt holds top. (
+          (λ h top. (
             stands-first (held h) salt c.args.hash.now c.args.count c.args.tree.now.said.blocks 5 c.args.standing.now c.requires.shape.some c.requires.standing top,
             rw zero refl,
           ));
@@ -30,6 +30,7 @@ pub loop-index-preserved : goal.loop-index-preserved
 loop-index-preserved g c =
     let payload = c.args.payload.now in
     let hash = c.args.hash.now in
+    let salt : List ℕ = c.salt-salt.result.now in
     let blocks : ℕ = c.args.tree.now.said.blocks in
     let end : ℕ = ends_of payload hash in
     let next = reads-then end _ _ _ _ _ _ _ _ _ _ _ _ _ _ c.loop-index.invariant.reads
@@ -40,24 +41,24 @@ loop-index-preserved g c =
       reads = reads-value end _ tt (reads-then end _ _ _ _ _ _ _ _ _ _ _ _ _ _ next
           (reads-farther (end_of payload) end _ (omega arith) c.in_ok-now.ensures.reads));
       stands = with_told (history_told (g.D.Disk.first c.args.disk.now) (g.D.Disk.calls c.args.disk.now))
-          (λ h (so : StandsSo (held h) (Holds256 c.args.tree.now.salted) payload hash c.args.count blocks c.args.standing.now c.loop-index.index
+          (λ h (so : StandsSo (held h) salt payload hash c.args.count blocks c.args.standing.now c.loop-index.index
           c.loop-index.standing c.loop-index.notes c.loop-index.found)
-          (both : NextGoes (held h) (Holds256 c.args.tree.now.salted) hash c.args.count blocks c.loop-index.index c.loop-index.standing
+          (both : NextGoes (held h) salt hash c.args.count blocks c.loop-index.index c.loop-index.standing
           c.loop-index.notes (Ok c.in_ok-next_block.field-0) c.next_block.new.room c.next_block.new.notes
-          × Found (held h) (Holds256 c.args.tree.now.salted) payload blocks c.loop-index.index c.split_at.result.0.now c.loop-index.found c.in_ok-now.now).
-          both-more (held h) (Holds256 c.args.tree.now.salted) payload hash c.args.count blocks (length c.args.standing.now) 5 c.args.standing.now
+          × Found (held h) salt payload blocks c.loop-index.index c.split_at.result.0.now c.loop-index.found c.in_ok-now.now).
+          both-more (held h) salt payload hash c.args.count blocks (length c.args.standing.now) 5 c.args.standing.now
           c.loop-index.index c.loop-index.standing c.loop-index.notes c.loop-index.found c.in_ok-next_block.field-0 c.next_block.new.room
           c.next_block.new.notes c.in_ok-now.now c.requires.shape (omega arith) so both.0 (rw whole both.1))
           c.loop-index.invariant.stands
-          (both_told (λ h. NextGoes (held h) (Holds256 c.args.tree.now.salted) hash c.args.count blocks c.loop-index.index c.loop-index.standing
+          (both_told (λ h. NextGoes (held h) salt hash c.args.count blocks c.loop-index.index c.loop-index.standing
           c.loop-index.notes (Ok c.in_ok-next_block.field-0) c.next_block.new.room c.next_block.new.notes)
-          (λ h. Found (held h) (Holds256 c.args.tree.now.salted) payload blocks c.loop-index.index c.split_at.result.0.now c.loop-index.found c.in_ok-now.now)
+          (λ h. Found (held h) salt payload blocks c.loop-index.index c.split_at.result.0.now c.loop-index.found c.in_ok-now.now)
           (history_told (g.D.Disk.first c.args.disk.now) (g.D.Disk.calls c.args.disk.now))
-          (told_before (λ h. NextGoes (held h) (Holds256 c.args.tree.now.salted) hash c.args.count blocks c.loop-index.index c.loop-index.standing
+          (told_before (λ h. NextGoes (held h) salt hash c.args.count blocks c.loop-index.index c.loop-index.standing
           c.loop-index.notes (Ok c.in_ok-next_block.field-0) c.next_block.new.room c.next_block.new.notes)
           (g.D.Disk.first c.args.disk.now) (g.D.Disk.first c.loop-index.disk) (g.D.Disk.calls c.args.disk.now) (g.D.Disk.calls c.loop-index.disk)
           c.loop-index.invariant.reads.first c.loop-index.invariant.reads.calls c.in_ok-next_block.ensures.stands)
-          (told_before (λ h. Found (held h) (Holds256 c.args.tree.now.salted) payload blocks c.loop-index.index c.split_at.result.0.now
+          (told_before (λ h. Found (held h) salt payload blocks c.loop-index.index c.split_at.result.0.now
           c.loop-index.found c.in_ok-now.now)
           (g.D.Disk.first c.args.disk.now) (g.D.Disk.first c.next_block.new.disk) (g.D.Disk.calls c.args.disk.now) (g.D.Disk.calls c.next_block.new.disk)
           next.first next.calls c.in_ok-now.ensures.found));
@@ -75,16 +76,19 @@ pub returns-clause-bad : goal.returns-clause-bad
 returns-clause-bad g c =
     let payload = c.args.payload.now in
     let hash = c.args.hash.now in
+    let salt : List ℕ = c.salt-salt.result.now in
     let said = c.args.tree.now.said in
     let blocks : ℕ = said.blocks in
     let all : c.loop-index.index ≡ runs blocks = omega (arith, c.runs-index-end.ensures) in
     let whole : min (128 * c.loop-index.index) blocks ≡ blocks = omega (arith, c.requires.fits.some) in
     if_told (history_told (g.D.Disk.first c.args.disk.now) (g.D.Disk.calls c.args.disk.now))
-    (λ h (so : StandsSo (held h) (Holds256 c.args.tree.now.salted) payload hash c.args.count blocks c.args.standing.now c.loop-index.index
+    (λ h (so : StandsSo (held h) salt payload hash c.args.count blocks c.args.standing.now c.loop-index.index
     c.loop-index.standing c.loop-index.notes c.loop-index.found) is top.
-    let last = so (salt_of (held h) hash said) is.salted top in
-    block-bad (held h) (salt_of (held h) hash said) payload hash blocks c.args.count c.first_noted.result c.loop-index.found c.block_bad.result
+    let kept : salt ≡ salt_of (held h) hash said = c.salt-salt.ensures.salt ∙ is.salt in
+    let last = so top in
+    block-bad (held h) salt payload hash blocks c.args.count c.first_noted.result c.loop-index.found c.block_bad.result
     c.requires.more c.requires.count
-    (c.first_noted.ensures (held h) (salt_of (held h) hash said) hash blocks c.loop-index.standing (rw all at last.0)) (rw whole at last.1)
-    c.block_bad.ensures)
+    (c.first_noted.ensures (held h) salt hash blocks c.loop-index.standing (rw all at last.0)) (rw whole at last.1)
+    c.block_bad.ensures
+    ∙ ap (λ (s : List ℕ). wrong_block (held h) s payload hash blocks) kept)
     c.loop-index.invariant.stands

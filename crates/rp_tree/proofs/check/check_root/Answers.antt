@@ -1,10 +1,10 @@
 -- The superblock, then the top.
-use Rattle.std.proofs.Common.{◌≡◌, ◌≤◌, ℕ, Bool, length, take, Some, None, ◌∙◌, sym, arith}
+use Rattle.std.proofs.Common.{◌≡◌, length, take, Some, None, sym, arith}
 use Rattle.std.specs.Prelude.{IfOk, MatchOption}
 use Rattle.std.proofs.lemmas.List.{length-take-le}
 use Rattle.rp_disk.specs.History.{held}
 use Rattle.rp_disk.specs.Made.{history_told}
-use Rattle.rp_tree.specs.Checked.{has_root, is_rooted, superblock_of}
+use Rattle.rp_tree.specs.Checked.{is_rooted, superblock_of}
 use Rattle.rp_tree.specs.Reads.{end_of, ends_of}
 use Rattle.rp_tree.specs.Standing.{IsTreeOf}
 use Rattle.rp_tree.proofs.ReadsLemmas.{if_told, ok-map, reads-farther, reads-then, told_before, with_told}

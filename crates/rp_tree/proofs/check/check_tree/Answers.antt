@@ -1,12 +1,11 @@
 -- The root, then the blocks under it.
-use Rattle.std.proofs.Common.{◌≡◌, ℕ, true, false, ◌-◌, ◌*◌, drop, arith}
+use Rattle.std.proofs.Common.{◌≡◌, arith}
 use Rattle.rp_disk.specs.History.{held}
 use Rattle.rp_disk.specs.Made.{history_told}
-use Rattle.rp_tree.specs.Checked.{block_of, is_rooted, salt_of, wrong_block}
-use Rattle.rp_tree.specs.Reads.{ends_of}
+use Rattle.rp_tree.specs.Checked.{is_rooted}
 use Rattle.rp_tree.specs.Standing.{IsTreeOf}
-use Rattle.rp_tree.proofs.ReadsLemmas.{both_told, if_told, reads-then, told_before, with_told}
-use Rattle.rp_tree.proofs.RootLemmas.{bad-more, bad-one, bad-top, shape-of}
+use Rattle.rp_tree.proofs.ReadsLemmas.{if_told}
+use Rattle.rp_tree.proofs.RootLemmas.{bad-one, shape-of}
 use Rattle.rp_tree.proofs.check.check_tree.Goals as goal
 
 pub returns-then-tree-eq1-clause-bad : goal.returns-then-tree-eq1-clause-bad
@@ -23,4 +22,4 @@ pub check_blocks-requires-clause-shape : goal.check_blocks-requires-clause-shape
 check_blocks-requires-clause-shape g c =
     shape-of c.args.payload.now c.args.hash.now c.args.tree.now.said.blocks c.levels-count.result _ c.requires.fits c.if-tree-eq1.false
     c.levels-count.ensures.levels c.levels-count.ensures.few_levels c.levels-count.ensures.top
-    (omega (arith, c.top_stands.auto.standing, c.split_at_mut-buffer.ensures.back_len)) c.requires.hash_end
+    (omega (arith, c.top_stands.auto.standing, c.split_at_mut-standing.ensures.front_len)) c.requires.hash_end

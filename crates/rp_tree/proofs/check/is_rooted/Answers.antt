@@ -1,10 +1,10 @@
--- The digest of the top, by the salt that the hasher has taken.
+-- The digest of the top, behind the salt.
 use Rattle.std.proofs.Common.{◌≡◌, ◌++◌, refl, ◌∙◌, arith}
 use Rattle.std.proofs.lemmas.List.{take_all}
 use Rattle.rp_base.specs.Image.{bytes_at}
 use Rattle.rp_disk.specs.History.{held}
 use Rattle.rp_disk.specs.Made.{history_told}
-use Rattle.rp_tree.specs.Checked.{salt_of, top_of}
+use Rattle.rp_tree.specs.Checked.{top_of}
 use Rattle.rp_tree.proofs.ReadsLemmas.{if_told}
 use Rattle.rp_tree.proofs.check.is_rooted.Goals as goal
 
@@ -17,5 +17,5 @@ returns-clause-root g c =
     take_all 32 c.root_of.result (omega (arith, c.root_of.ensures.len)) ∙ c.root_of.ensures.value in
     if_told (history_told (g.D.Disk.first c.args.disk.now) (g.D.Disk.calls c.args.disk.now))
     (λ h (block : c.read_top.new.block ≡ top_of (held h) payload hash said.blocks) is.
-    c.is_right.ensures (salt_of (held h) hash said) is.salted ∙ rw (block, whole) refl)
+    c.is_right.ensures ∙ rw (c.salt.ensures.salt, is.salt, block, whole) refl)
     c.in_ok-read_top.ensures.block

@@ -1,5 +1,5 @@
 -- The levels above, then the lowest one.
-use Rattle.std.proofs.Common.{◌≡◌, ◌≤◌, ◌-◌, List, ℕ, Option, length, take, drop, ◌∙◌, arith, length-drop}
+use Rattle.std.proofs.Common.{◌≡◌, ◌-◌, List, ℕ, Option, length, take, drop, ◌∙◌, arith, length-drop}
 use Rattle.std.proofs.lemmas.List.{take_all}
 use Rattle.rp_verity.specs.Tree.{runs}
 use Rattle.rp_tree.proofs.StandingLemmas.{noted-first, noted-none}

@@ -1,9 +1,7 @@
 -- The topmost level alone; a block whose parent stands; a block whose parent is read first.
-use Rattle.std.proofs.Common.{◌≡◌, ◌≢◌, ◌+◌, ◌-◌, ◌*◌, ◌/◌, ◌%◌, ◌<◌, ◌≤◌, ℕ, List, ◌++◌, Option, Ok, length, arith}
-use Rattle.sha2.specs.Hashers.{Holds256}
+use Rattle.std.proofs.Common.{◌≡◌, ◌+◌, ◌-◌, ◌/◌, ◌%◌, ◌≤◌, ℕ, List, ◌++◌, Option, Ok, length, arith}
 use Rattle.rp_disk.specs.History.{held}
 use Rattle.rp_disk.specs.Made.{history_told}
-use Rattle.rp_verity.specs.Tree.{runs}
 use Rattle.rp_tree.specs.Reads.{end_of}
 use Rattle.rp_tree.proofs.NextLemmas.{NextGoes, OwnGoes, next-long, next-short, shape-call}
 use Rattle.rp_tree.proofs.ReadsLemmas.{always, if_told, reads-then, told_before, with_told}
@@ -13,17 +11,17 @@ use Rattle.rp_tree.proofs.level.+next_block.Goals as goal
 pub returns-then-levels-eq1-clause-stands : goal.returns-then-levels-eq1-clause-stands
 returns-then-levels-eq1-clause-stands g t c =
     always (history_told (g.D.Disk.first c.args.disk.now) (g.D.Disk.calls c.args.disk.now))
-    (λ h salt holds stands.
-    stands-top (held h) salt c.args.hash.now c.args.levels c.args.total c.args.index (c.args.index + 1) c.args.room.now c.args.notes.now
+    (λ h stands.
+    stands-top (held h) c.args.salt.now c.args.hash.now c.args.levels c.args.total c.args.index (c.args.index + 1) c.args.room.now c.args.notes.now
     c.if-levels-eq1.true stands)
 
 pub returns-then-index-ne0-clause-stands : goal.returns-then-index-ne0-clause-stands
 returns-then-index-ne0-clause-stands g t c =
     let more : 2 ≤ c.args.levels = omega (arith, c.if-levels-eq1.false, c.requires.shape.some) in
     if_told (history_told (g.D.Disk.first c.args.disk.now) (g.D.Disk.calls c.args.disk.now))
-    (λ h (own : OwnGoes (held h) (Holds256 c.args.salted.now) c.args.hash.now c.args.levels c.args.total c.args.index c.args.room.now c.args.notes.now
+    (λ h (own : OwnGoes (held h) c.args.salt.now c.args.hash.now c.args.levels c.args.total c.args.index c.args.room.now c.args.notes.now
     c.own_block.result c.own_block.new.room c.own_block.new.notes).
-    next-short (held h) (Holds256 c.args.salted.now) c.args.hash.now c.args.levels c.args.total c.args.index c.args.room.now c.args.notes.now
+    next-short (held h) c.args.salt.now c.args.hash.now c.args.levels c.args.total c.args.index c.args.room.now c.args.notes.now
     c.own_block.result c.own_block.new.room c.own_block.new.notes more c.if-index-ne0.true own)
     c.own_block.ensures.stands
 
@@ -34,10 +32,13 @@ next_block-requires g t c κs alive =
       (
         alive,
         (
-          shape-call c.args.hash.now c.args.levels c.args.total c.runs.result (length c.args.room.now) (length c.args.notes.now)
-              (length c.split_at_mut-above.result.1.now) (length c.split_at_mut-higher.result.1.now) more c.runs.ensures
-              (omega (arith, c.split_at_mut-above.ensures.back_len)) (omega (arith, c.split_at_mut-higher.ensures.back_len)) c.requires.shape,
-          omega (arith, c.requires.index, c.runs.ensures),
+          c.requires.salt,
+          (
+            shape-call c.args.hash.now c.args.levels c.args.total c.runs.result (length c.args.room.now) (length c.args.notes.now)
+                (length c.split_at_mut-above.result.1.now) (length c.split_at_mut-higher.result.1.now) more c.runs.ensures
+                (omega (arith, c.split_at_mut-above.ensures.back_len)) (omega (arith, c.split_at_mut-higher.ensures.back_len)) c.requires.shape,
+            omega (arith, c.requires.index, c.runs.ensures),
+          ),
         ),
       ),
     )
@@ -58,15 +59,15 @@ returns-clause-stands g t c =
     let full : c.args.index % 128 ≡ 0 = omega arith in
     rw (c.split_at_mut-above.ensures.value, c.split_at_mut-higher.ensures.value)
     (with_told (history_told (g.D.Disk.first c.args.disk.now) (g.D.Disk.calls c.args.disk.now))
-    (λ h (inner : NextGoes (held h) (Holds256 c.args.salted.now) c.args.hash.now (c.args.levels - 1) c.runs.result (c.args.index / 128)
+    (λ h (inner : NextGoes (held h) c.args.salt.now c.args.hash.now (c.args.levels - 1) c.runs.result (c.args.index / 128)
     below lower (Ok c.in_ok-next_block.field-0) above higher)
-    (own : OwnGoes (held h) (Holds256 c.args.salted.now) c.args.hash.now c.args.levels c.args.total c.args.index (block ++ above)
+    (own : OwnGoes (held h) c.args.salt.now c.args.hash.now c.args.levels c.args.total c.args.index (block ++ above)
     (mine ++ higher) c.own_block-2.result c.own_block-2.new.room c.own_block-2.new.notes).
-    next-long (held h) (Holds256 c.args.salted.now) c.args.hash.now c.args.levels c.args.total c.args.index block below above mine lower higher
+    next-long (held h) c.args.salt.now c.args.hash.now c.args.levels c.args.total c.args.index block below above mine lower higher
     c.in_ok-next_block.field-0 c.own_block-2.result c.own_block-2.new.room c.own_block-2.new.notes more
     c.split_at_mut-above.ensures.front_len c.split_at_mut-higher.ensures.front_len full (rw c.runs.ensures at inner) own)
     c.in_ok-next_block.ensures.stands
-    (told_before (λ h. OwnGoes (held h) (Holds256 c.args.salted.now) c.args.hash.now c.args.levels c.args.total c.args.index (block ++ above)
+    (told_before (λ h. OwnGoes (held h) c.args.salt.now c.args.hash.now c.args.levels c.args.total c.args.index (block ++ above)
     (mine ++ higher) c.own_block-2.result c.own_block-2.new.room c.own_block-2.new.notes)
     (g.D.Disk.first c.args.disk.now) (g.D.Disk.first c.next_block.new.disk) (g.D.Disk.calls c.args.disk.now) (g.D.Disk.calls c.next_block.new.disk)
     c.in_ok-next_block.ensures.reads.first c.in_ok-next_block.ensures.reads.calls c.own_block-2.ensures.stands))

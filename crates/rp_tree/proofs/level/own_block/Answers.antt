@@ -1,5 +1,5 @@
 -- One block more of the lowest level.
-use Rattle.std.proofs.Common.{◌≡◌, ℕ, ◌+◌, ◌-◌, ◌*◌, List, ◌++◌, length, drop, ◌∙◌, ap, arith}
+use Rattle.std.proofs.Common.{◌≡◌, ℕ, ◌+◌, ◌-◌, ◌*◌, List, length, drop, ◌∙◌, ap, arith}
 use Rattle.rp_base.specs.Image.{bytes_at}
 use Rattle.rp_disk.specs.History.{held}
 use Rattle.rp_disk.specs.Made.{history_told}
@@ -30,9 +30,9 @@ returns-clause-stands g c =
     let rest : drop 4096 c.args.room.now ≡ above = rw c.split_at_mut-block.ensures.value (drop-front block above whole) in
     let long : length c.read_blocks.new.buf ≡ 4096 = omega (arith, c.read_blocks.auto.buf) in
     if_told (history_told (g.D.Disk.first c.args.disk.now) (g.D.Disk.calls c.args.disk.now))
-    (λ h (read : c.read_blocks.new.buf ≡ bytes_at (held h) (512 * c.args.hash.now.start + 4096 * number) (length block)) salt holds before stands.
+    (λ h (read : c.read_blocks.new.buf ≡ bytes_at (held h) (512 * c.args.hash.now.start + 4096 * number) (length block)) before stands.
     rw c.note.ensures
-    (stands-next (held h) salt c.args.hash.now c.args.levels c.args.total c.args.index number (length c.args.room.now) c.read_blocks.new.buf above
+    (stands-next (held h) c.args.salt.now c.args.hash.now c.args.levels c.args.total c.args.index number (length c.args.room.now) c.read_blocks.new.buf above
     c.args.notes.now c.is_right.result c.requires.shape c.requires.more c.requires.index long (rw whole at read) number_is
-    (c.is_right.ensures salt holds) before (rw rest at stands)))
+    c.is_right.ensures before (rw rest at stands)))
     c.in_ok-read_blocks.ensures.bytes

@@ -1,9 +1,8 @@
 -- One piece after another.
-use Rattle.std.proofs.Common.{◌≡◌, ◌≤◌, ◌+◌, ◌-◌, ◌*◌, ℕ, List, Some, None, length, take, drop, ◌∙◌, rules, arith, length-append, length-drop}
+use Rattle.std.proofs.Common.{◌≡◌, ◌+◌, ◌-◌, ◌*◌, ℕ, List, None, length, take, drop, arith, length-append, length-drop}
 use Rattle.std.specs.Prelude.{find}
 use Rattle.std.specs.List.{range_with_len}
 use Rattle.std.proofs.lemmas.List.{length-take-le, take_all}
-use Rattle.sha2.specs.Hashers.{Holds256}
 use Rattle.rp_base.specs.Image.{bytes_at}
 use Rattle.rp_disk.specs.History.{held}
 use Rattle.rp_disk.specs.Made.{history_told}
@@ -15,6 +14,7 @@ use Rattle.rp_tree.proofs.run.wrong_in.Goals as goal
 pub returns-in-Some-clause-found : goal.returns-in-Some-clause-found
 returns-in-Some-clause-found g c =
     let payload = c.args.payload.now in
+    let salt : List ℕ = c.args.salt.now in
     let digests : List ℕ = c.args.digests.now in
     let done : ℕ = c.pieces.done in
     let step : ℕ = c.min-step.result in
@@ -23,10 +23,10 @@ returns-in-Some-clause-found g c =
     let rest : take (length digests - 32 * done) (drop (32 * done) digests) ≡ drop (32 * done) digests =
     take_all (length digests - 32 * done) (drop (32 * done) digests) (omega (arith, length-drop (32 * done) digests)) in
     with_told (history_told (g.D.Disk.first c.args.disk.now) (g.D.Disk.calls c.args.disk.now))
-    (λ h (none : (salt : List ℕ) → Holds256 c.args.salted.now salt → find (differs_from (held h) salt payload c.args.first digests) (range_with_len 0 done) ≡ None)
-    (read : buf ≡ bytes_at (held h) (512 * payload.start + 4096 * (c.args.first + done)) (length (take (4096 * step) c.pieces.buffer))) salt holds.
-    piece-first (held h) salt payload c.args.first done step c.args.count c.in-Some.k digests buf (omega arith) (rw size at read) (none salt holds)
-    (rw rest at (c.in-Some.ensures.found salt holds)))
+    (λ h (none : find (differs_from (held h) salt payload c.args.first digests) (range_with_len 0 done) ≡ None)
+    (read : buf ≡ bytes_at (held h) (512 * payload.start + 4096 * (c.args.first + done)) (length (take (4096 * step) c.pieces.buffer))).
+    piece-first (held h) salt payload c.args.first done step c.args.count c.in-Some.k digests buf (omega arith) (rw size at read) none
+    (rw rest at c.in-Some.ensures.found))
     c.pieces.invariant.found
     (told_before (λ h. buf ≡ bytes_at (held h) (512 * payload.start + 4096 * (c.args.first + done)) (length (take (4096 * step) c.pieces.buffer)))
     (g.D.Disk.first c.args.disk.now) (g.D.Disk.first c.pieces.disk) (g.D.Disk.calls c.args.disk.now) (g.D.Disk.calls c.pieces.disk)
@@ -35,6 +35,7 @@ returns-in-Some-clause-found g c =
 pub pieces-preserved : goal.pieces-preserved
 pieces-preserved g c =
     let payload = c.args.payload.now in
+    let salt : List ℕ = c.args.salt.now in
     let digests : List ℕ = c.args.digests.now in
     let done : ℕ = c.pieces.done in
     let step : ℕ = c.min-step.result in
@@ -55,10 +56,10 @@ pieces-preserved g c =
       );
       reads = reads-then (end_of payload) _ _ _ _ _ _ _ _ _ _ _ _ _ _ c.pieces.invariant.reads c.in_ok-read_blocks.ensures.reads;
       found = with_told (history_told (g.D.Disk.first c.args.disk.now) (g.D.Disk.calls c.args.disk.now))
-          (λ h (none : (salt : List ℕ) → Holds256 c.args.salted.now salt → find (differs_from (held h) salt payload c.args.first digests) (range_with_len 0 done) ≡ None)
-          (read : buf ≡ bytes_at (held h) (512 * payload.start + 4096 * (c.args.first + done)) (length (take (4096 * step) c.pieces.buffer))) salt holds.
-          piece-found (held h) salt payload c.args.first done step digests buf None (rw size at read) (none salt holds)
-          (rw (nothing, rest) at (c.first_wrong.ensures.found salt holds)))
+          (λ h (none : find (differs_from (held h) salt payload c.args.first digests) (range_with_len 0 done) ≡ None)
+          (read : buf ≡ bytes_at (held h) (512 * payload.start + 4096 * (c.args.first + done)) (length (take (4096 * step) c.pieces.buffer))).
+          piece-found (held h) salt payload c.args.first done step digests buf None (rw size at read) none
+          (rw (nothing, rest) at c.first_wrong.ensures.found))
           c.pieces.invariant.found
           (told_before (λ h. buf ≡ bytes_at (held h) (512 * payload.start + 4096 * (c.args.first + done)) (length (take (4096 * step) c.pieces.buffer)))
           (g.D.Disk.first c.args.disk.now) (g.D.Disk.first c.pieces.disk) (g.D.Disk.calls c.args.disk.now) (g.D.Disk.calls c.pieces.disk)

@@ -1,8 +1,7 @@
 -- None of the blocks before is wrong.
-use Rattle.std.proofs.Common.{◌≡◌, ◌≤◌, ◌*◌, ◌-◌, ℕ, List, None, Ok, length}
+use Rattle.std.proofs.Common.{◌≡◌, ◌≤◌, ◌*◌, ◌-◌, None, Ok, length}
 use Rattle.std.specs.Prelude.{IfSome, find}
 use Rattle.std.specs.List.{range_with_len}
-use Rattle.sha2.specs.Hashers.{Holds256}
 use Rattle.rp_disk.specs.History.{held}
 use Rattle.rp_disk.specs.Made.{history_told}
 use Rattle.rp_tree.specs.Reads.{Reads, end_of}
@@ -16,8 +15,8 @@ invariant-pieces g l = record {
   most : 4096 * l.most ≤ length l.buffer;
   reads : Reads {T = Unit {0}} (end_of l.payload) (g.D.Disk.first l.initial.disk) (g.D.Disk.first l.disk) (g.D.Disk.calls l.initial.disk) (g.D.Disk.calls l.disk)
       (g.D.Disk.strays l.initial.disk) (g.D.Disk.strays l.disk) (g.D.Disk.faults l.initial.disk) (g.D.Disk.faults l.disk) (Ok tt);
-  found : IfSome (history_told (g.D.Disk.first l.initial.disk) (g.D.Disk.calls l.initial.disk)) (λ h. (salt : List ℕ) → Holds256 l.salted salt
-      → find (differs_from (held h) salt l.payload l.first l.digests) (range_with_len 0 l.done) ≡ None);
+  found : IfSome (history_told (g.D.Disk.first l.initial.disk) (g.D.Disk.calls l.initial.disk)) (λ h.
+      find (differs_from (held h) l.salt l.payload l.first l.digests) (range_with_len 0 l.done) ≡ None);
 }
 
 abbrev pub decreases-pieces : goal.decreases-pieces
