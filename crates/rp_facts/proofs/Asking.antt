@@ -1,13 +1,13 @@
 -- Sources that are asked one after another.
-use Rattle.std.proofs.Common.{ℕ, ◌≡◌, ◌<◌, ◌+◌, ◌++◌, ◌∙◌, List, [], ◌∷◌, length, map, get_or, take, Option, Some, None, Result, Ok, Err, IfSome, sym, ap, subst, inl, inr, arith}
-use Rattle.std.specs.Prelude.{filter_map, is_some, option_map}
+use Rattle.std.proofs.Common.{ℕ, ◌≡◌, ◌<◌, ◌+◌, ◌++◌, ◌∙◌, List, [], ◌∷◌, length, map, get_or, take, Option, Some, None, Result, Ok, Err, IfSome, refl, sym, ap, subst, inl, inr, arith}
+use Rattle.std.specs.Prelude.{IfOk, IsSome, filter_map, is_some, option_map}
 use Rattle.std.proofs.lemmas.List.{get_or-map, length-append, map-append, take_more}
-use Rattle.std.proofs.lemmas.List.Elements.{filter_map-append}
+use Rattle.std.proofs.lemmas.List.Elements.{All-cons, All-nil, filter_map-append}
 use Rattle.rp_base.specs.declared.guid.Guid.{Guid}
 use Rattle.rp_defs.specs.declared.definition.Definition.{Definition}
 use Rattle.rp_facts.specs.declared.fault.FactFault.{FactFault}
 use Rattle.rp_facts.specs.declared.fault.FactFault.TheVariants.{SourceFault}
-use Rattle.rp_facts.specs.Sourced.{AreLengths, IsLength, StraysAtMissing, bytes_at, fact_on, facts_on}
+use Rattle.rp_facts.specs.Sourced.{AreLengths, AreThere, IsLength, StraysAtMissing, bytes_at, fact_on, facts_on}
 use Rattle.rp_io.specs.declared.stored.Stored.{Stored}
 use Rattle.rp_sizes.specs.Needs.{AreFactsOn}
 use Rattle.rp_sizes.specs.declared.need.Fact.{Fact}
@@ -119,3 +119,19 @@ module _ (list : List Definition) (needs : List Need) (lens : List ℕ) (i : ℕ
       (λ files. AreLengths files list needs lens → s2 ≡ s0) o
       (λ files before is are. is (length_at files list needs lens i d e below count are) ∙ before are) before
       (at_told (λ files. IsLength files list (get_or needs i d) (get_or lens i e) → s2 ≡ s1) p o same is)
+
+-- sources that have lengths are there
+lengths_there : (files : List Stored) (list : List Definition) (needs : List Need) (lens : List ℕ) → AreLengths files list needs lens → AreThere files list needs
+lengths_there files list [] lens are = All-nil (λ need. IsSome (bytes_at files list need))
+lengths_there files list (need ∷ needs) [] are = absurd (cc)
+lengths_there files list (need ∷ needs) (len ∷ lens) are =
+    All-cons (λ need. IsSome (bytes_at files list need)) need needs (one (bytes_at files list need) (cc)) (lengths_there files list needs lens (cc)) where
+      one : (bytes : Option (List ℕ)) → option_map length bytes ≡ Some len → IsSome bytes
+      one None is = absurd (cc)
+      one (Some bytes) is = refl
+
+pub told_there : {T E : Type 0} (o : Option (List Stored)) (list : List Definition) (needs : List Need) (lens : List ℕ) (result : Result T E)
+    → IfSome o (λ files. AreLengths files list needs lens) → IfSome o (λ files. IfOk result (λ _. AreThere files list needs))
+told_there None list needs lens result are = tt
+told_there (Some files) list needs lens (Ok value) are = lengths_there files list needs lens are
+told_there (Some files) list needs lens (Err fault) are = tt

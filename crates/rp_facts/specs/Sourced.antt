@@ -1,5 +1,5 @@
 -- What wanted sources hold, where they are told.
-use Rattle.std.specs.Prelude.{ℕ, ◌≡◌, ◌⊎◌, List, Any, Option, Some, None, IsSome, Result, Err, length, map, filter_map, option_map, option_and_then, slice_get}
+use Rattle.std.specs.Prelude.{ℕ, ◌≡◌, ◌⊎◌, List, All, Any, Option, Some, None, IsSome, Result, Err, length, map, filter_map, option_map, option_and_then, slice_get}
 use Rattle.rp_base.specs.declared.guid.Guid.{Guid}
 use Rattle.rp_defs.specs.declared.definition.Definition.{Definition}
 use Rattle.rp_facts.specs.declared.fault.FactFault.{FactFault}
@@ -39,6 +39,10 @@ IsLength files list need len = option_map length (bytes_at files list need) ≡ 
 
 abbrev pub AreLengths : List Stored → List Definition → List Need → List ℕ → Type 0
 AreLengths files list needs lens = map (λ need. option_map length (bytes_at files list need)) needs ≡ map Some lens
+
+-- the source of each of these needs is there
+abbrev pub AreThere : List Stored → List Definition → List Need → Type 0
+AreThere files list needs = All (λ need. IsSome (bytes_at files list need)) needs
 
 -- the source of a need isn't there
 abbrev pub IsMissing : List Stored → List Definition → Need → Type 0

@@ -4,7 +4,7 @@ ghost use Rattle.rp_base.specs.Wants.{IsWant};
 ghost use Rattle.rp_defs.specs.declared.definition.Definition.{Definition as Named};
 ghost use Rattle.rp_defs.specs.WellFormed.{IsWellFormed};
 ghost use Rattle.rp_facts.specs.Faults.{HasFactCause};
-ghost use Rattle.rp_facts.specs.Sourced.{AreLengths, IsLength, IsSourced, StraysAtMissing, fact_on, facts_on, root_on};
+ghost use Rattle.rp_facts.specs.Sourced.{AreLengths, AreThere, IsLength, IsSourced, StraysAtMissing, fact_on, facts_on, root_on};
 ghost use Rattle.rp_sizes.specs.Needs.{AreFactsOn};
 
 use crate::FactFault;
@@ -16,7 +16,8 @@ use rp_verity::{levels, root_of};
 use std::alloc::{AllocError, Global};
 
 /// What the sources of these needs tell: the length of each is asked in order, then the root hash of each that is wanted
-/// is taken in order, over the source and zeros behind it. So each source is read at most once.
+/// is taken in order, over the source and zeros behind it. So each source is read at most once. A source that isn't there
+/// is a fault.
 pub fn facts_of<S: Sources>(
     alloc: Global,
     sources: &mut S,
@@ -28,6 +29,7 @@ pub fn facts_of<S: Sources>(
     requires needs { All (IsSourced list.now) needs.now }
     ensures facts { IfSome (S.told sources.old) (λ files. IfOk result (λ facts. facts ≡ facts_on seed files list.now needs.now)) }
     ensures each { IfOk result (AreFactsOn needs.now) }
+    ensures there { IfSome (S.told sources.old) (λ files. IfOk result (λ _. AreThere files list.now needs.now)) }
     ensures told { S.told sources.new ≡ S.told sources.old }
     ensures strays { IfSome (S.told sources.old) (λ files.
         StraysAtMissing files list.now needs.now (S.strays sources.old) (S.strays sources.new) result) }
