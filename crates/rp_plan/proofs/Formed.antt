@@ -191,7 +191,7 @@ module _ (seen : Seen) (target : ℕ) (defs : List Definition) (facts : List Fac
       (omega (arith, given.plannable.in_place.bounds, given.plannable.in_place.bounded.last, (has_room seen target defs own given).2))
 
   pub goal_in_place : IsInPlace target plan.goal
-  goal_in_place = record { bounded = goal_bounded; bounds = goal_bounds; rows = goal_laid_out; }
+  goal_in_place = record { bounded = goal_bounded; bounds = goal_bounds; rows = goal_laid_out }
 
   pub goal_writable : IsWritable plan.goal
   goal_writable = record {
