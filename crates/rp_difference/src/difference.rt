@@ -9,11 +9,11 @@ use crate::table::table_difference;
 use crate::trees::trees_difference;
 use rp_base::{Failed, Plan, Seen};
 use rp_disk::Disk;
-use rp_tree::Bad;
+use rp_tree::{Bad, WIDE_ROOM};
 use rp_types::{Arch, Designator};
 
-/// Bytes of the room that is used.
-pub const ROOM: usize = 24576;
+/// Bytes of the room that a caller does best to give: one in which data blocks fill their lanes.
+pub const ROOM: usize = WIDE_ROOM;
 
 /// What an image first differs in from what is planned for it, in the order in which it is looked for.
 #[derive(Clone, Copy, Debug, PartialEq, Eq)]
@@ -33,7 +33,8 @@ pub enum Difference {
 }
 
 /// What the image on a disk, of which this was seen, first differs in from what is planned for it; the hash trees are checked
-/// down to the last digest where all else is the same. The disk is read alone. The room has 24,576 bytes.
+/// down to the last digest where all else is the same. The disk is read alone. The room has 24,576 bytes or more: with
+/// `ROOM` bytes data blocks fill their lanes.
 pub fn difference_of<D: Disk>(
     disk: &mut D,
     arch: Arch,

@@ -11,12 +11,9 @@ ghost use Rattle.rp_tree.specs.Reads.{Reads, ends_of};
 use crate::Difference;
 use rp_base::{Failed, Row, Seen};
 use rp_disk::Disk;
-use rp_tree::{Bad, check_all};
+use rp_tree::{BLOCK_UNITS, Bad, check_all};
 use rp_types::{Arch, Designator};
 use rp_verdict::{row_of, tree_row};
-
-/// Units of a block.
-const BLOCK_UNITS: u64 = 8;
 
 /// What is wrong first of the hash tree of root, then of that of usr.
 pub(crate) fn trees_difference<D: Disk>(
