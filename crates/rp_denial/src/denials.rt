@@ -1,11 +1,10 @@
 ghost use Rattle.std.specs.Prelude.{◌≡◌};
-ghost use Rattle.std.specs.List.{flat_map};
 ghost use Rattle.rp_denial.specs.Denials.{Denies, kind_word as word_of, policy_refusal, rule_name as name_of};
-ghost use Rattle.rp_outcome.specs.Output.{Prints, Refuses, output};
+ghost use Rattle.rp_outcome.specs.Output.{Refuses, output};
 
 use itoa::Buffer;
 use rp_io::Sink;
-use rp_outcome::{DONE, finish};
+use rp_outcome::print_pieces;
 use rp_policy::{PolicyFault, PolicyKind, Rule};
 use rp_types::Designator;
 
@@ -18,7 +17,7 @@ pub fn refuse_policy<K: Sink>(out: &mut K, fault: PolicyFault) -> u8
 {
     let mut buffer = Buffer::new();
     let at = buffer.format(u64::from(fault.at));
-    print_pieces(
+    let _ = print_pieces(
         out,
         &[
             "error 6",
@@ -49,7 +48,7 @@ fn kind_word(kind: PolicyKind) -> &'static str
 pub fn deny<K: Sink>(out: &mut K, designator: Designator, rule: Rule) -> u8
     ensures { Denies (output K.told K.faults out.old) (output K.told K.faults out.new) designator rule result }
 {
-    print_pieces(
+    let _ = print_pieces(
         out,
         &["denied ", designator.name(), " ", rule_name(rule), "\n"],
     );
@@ -64,16 +63,5 @@ fn rule_name(rule: Rule) -> &'static str
         Rule::Protection => "protection",
         Rule::ReadOnly => "read-only",
         Rule::GrowFs => "growfs",
-    }
-}
-
-// Prints texts one behind another, as far as the sink takes them.
-fn print_pieces<K: Sink>(out: &mut K, pieces: &[&str])
-    ensures { Prints (output K.told K.faults out.old) (output K.told K.faults out.new) (flat_map (λ piece. piece.now) pieces.now) }
-{
-    for piece in pieces {
-        if finish(out, piece) != DONE {
-            return;
-        }
     }
 }

@@ -1,6 +1,6 @@
 -- What `policy` and `compare` promise, by their exit statuses.
 use Rattle.std.proofs.Common.{ℕ, ◌≡◌, ◌⊎◌, [], Option, Some, None, Result, Ok, Err, refl, sym, ◌∙◌, subst, inl, inr, arith, true≢false}
-use Rattle.std.specs.Prelude.{IsErr, IsErrAnd, IsOkAnd}
+use Rattle.std.specs.Prelude.{IsErrAnd, IsOkAnd}
 use Rattle.rp_base.specs.Faults.{Rose}
 use Rattle.rp_denial.specs.Denials.{policy_refusal}
 use Rattle.rp_outcome.specs.Causes.{HasCauses}

@@ -1,19 +1,14 @@
 -- What `policy` and `compare` do.
-use Rattle.std.specs.Prelude.{ℕ, ◌≡◌, ◌⊎◌, List, codes, Option, Some, None, Result, Ok, Err}
+use Rattle.std.specs.Prelude.{ℕ, ◌⊎◌, List, codes, Option, Some, None, Result, Ok, Err}
 use Rattle.rp_denial.specs.Denials.{policy_refusal}
 use Rattle.rp_findings.specs.Policies.{beyond_line, policy_report}
-use Rattle.rp_outcome.specs.Output.{Output, Finishes, PrintsAll, PrintsPart, Refuses}
+use Rattle.rp_outcome.specs.Output.{Output, Differs, Finishes, Refuses}
 use Rattle.rp_outcome.specs.Refusals.{memory_refusal}
-use Rattle.rp_outcome.specs.Statuses as exit
 use Rattle.rp_policy.specs.Beyond.{counter_of}
 use Rattle.rp_policy.specs.Reading.{designators, policy_of}
 use Rattle.rp_policy.specs.declared.beyond.Counter.{Counter}
 use Rattle.rp_policy.specs.declared.policy.Policy.{Policy}
 use Rattle.rp_policy.specs.declared.policy.PolicyFault.{PolicyFault}
-
--- the exit status where a difference was told
-abbrev pub differs : ℕ
-differs = 1
 
 -- a policy is printed, unless there was no memory for its text; a text that is none is refused
 abbrev pub TellsPolicy : Output → Output → ℕ → Result Policy PolicyFault → Type 0
@@ -23,10 +18,6 @@ TellsPolicy out after status (Err fault) = Refuses out after (policy_refusal fau
 -- `policy`: the policy of a text is printed
 abbrev pub PrintsPolicy : List ℕ → Output → Output → ℕ → Type 0
 PrintsPolicy text out after status = TellsPolicy out after status (policy_of text)
-
--- a command that tells a difference ends with its text: all of it, or a first part where the sink failed
-abbrev pub Differs : Output → Output → List ℕ → ℕ → Type 0
-Differs before now text status = ((status ≡ differs) × PrintsAll before now text) ⊎ ((status ≡ exit.sink) × PrintsPart before now text)
 
 -- what a comparison found is printed, unless there was no memory for the text
 abbrev pub Told : Output → Output → ℕ → Option Counter → Type 0

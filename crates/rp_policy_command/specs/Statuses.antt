@@ -12,7 +12,6 @@ use Rattle.rp_policy.specs.Reading.{designators}
 use Rattle.rp_policy.specs.declared.beyond.Counter.{Counter}
 use Rattle.rp_policy.specs.declared.policy.Policy.{Policy}
 use Rattle.rp_policy.specs.declared.policy.PolicyFault.{PolicyFault}
-use Rattle.rp_policy_command.specs.Commands.{differs}
 
 -- the line of a text that is no policy was printed
 abbrev pub TellsNone : Output → Output → PolicyFault → Type 0
@@ -39,10 +38,10 @@ told_text (Some counter) = beyond_line counter
 -- tells; 10, want of memory, and nothing was printed
 pub record CompareByStatus (first second : Result Policy PolicyFault) (out after : Output) (status : ℕ) : Type 0 where
   pub causes : (disk : Device) → HasCauses disk disk out after status
-  pub one_of : (status ≡ exit.done) ⊎ (status ≡ differs) ⊎ (status ≡ policy) ⊎ (status ≡ exit.sink) ⊎ (status ≡ exit.memory)
+  pub one_of : (status ≡ exit.done) ⊎ (status ≡ exit.differs) ⊎ (status ≡ policy) ⊎ (status ≡ exit.sink) ⊎ (status ≡ exit.memory)
   pub within : status ≡ exit.done → IsOkAnd first (λ p. IsOkAnd second (λ q.
       (counter_of designators p q ≡ None) × PrintsAll out after (codes "within\n")))
-  pub beyond : status ≡ differs → IsOkAnd first (λ p. IsOkAnd second (λ q.
+  pub beyond : status ≡ exit.differs → IsOkAnd first (λ p. IsOkAnd second (λ q.
       (counter : Counter) × (counter_of designators p q ≡ Some counter) × PrintsAll out after (beyond_line counter)))
   pub cut : status ≡ exit.sink → IsOkAnd first (λ p. IsOkAnd second (λ q. PrintsPart out after (told_text (counter_of designators p q))))
   pub refused : status ≡ policy → IsErrAnd first (TellsNone out after) ⊎ IsOkAnd first (λ _. IsErrAnd second (TellsNone out after))

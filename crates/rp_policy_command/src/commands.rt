@@ -1,17 +1,14 @@
 ghost use Rattle.rp_outcome.specs.Output.{output};
 ghost use Rattle.rp_policy.specs.declared.beyond.Counter.{Counter};
-ghost use Rattle.rp_policy_command.specs.Commands.{Against, Compares, Differs, PrintsPolicy, Told};
+ghost use Rattle.rp_policy_command.specs.Commands.{Against, Compares, PrintsPolicy, Told};
 
 use rp_base::Memory;
 use rp_denial::refuse_policy;
 use rp_findings::{beyond_text, policy_text};
 use rp_io::Sink;
-use rp_outcome::{DONE, Refusal, finish, refuse};
+use rp_outcome::{Refusal, differ, finish, refuse};
 use rp_policy::{Counter, Policy, parse};
 use std::alloc::Global;
-
-/// What was asked for is told, and isn't so.
-pub const DIFFERS: u8 = 1;
 
 /// Prints the canonical text of a policy and the flags of each designator, and answers the exit status.
 pub fn policy<K: Sink>(alloc: Global, text: &str, out: &mut K) -> u8
@@ -53,18 +50,8 @@ fn tell<K: Sink>(alloc: Global, counter: Option<Counter>, out: &mut K) -> u8
     match counter {
         None => finish(out, "within\n"),
         Some(counter) => match beyond_text(alloc, &counter) {
-            Ok(text) => differ(out, text.as_str()),
+            Ok(text) => differ(out, &[text.as_str()]),
             Err(Memory) => refuse(out, &Refusal::memory()),
         },
-    }
-}
-
-// Ends a command that tells a difference with its text.
-fn differ<K: Sink>(out: &mut K, text: &str) -> u8
-    ensures { Differs (output K.told K.faults out.old) (output K.told K.faults out.new) text.now result }
-{
-    match finish(out, text) {
-        DONE => DIFFERS,
-        status => status,
     }
 }

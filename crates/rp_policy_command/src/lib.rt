@@ -6,5 +6,5 @@ mod law;
 #[cfg(test)]
 mod tests;
 
-pub use commands::{DIFFERS, compare, policy};
+pub use commands::{compare, policy};
 pub use law::{compare_by_status, policy_by_status};
