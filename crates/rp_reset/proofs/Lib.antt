@@ -1,0 +1,6 @@
+pub mod Fitting
+pub mod Left
+pub mod Made
+pub mod Public
+mod Computed
+mod Walks
