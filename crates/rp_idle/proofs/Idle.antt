@@ -1,5 +1,5 @@
 -- What a plan that drops nothing leaves is idle.
-use Rattle.std.proofs.Common.{◌≡◌, ◌≢◌, ℕ, ◌^◌, ◌≤◌, List, [], Ok, All, arith, inl, refl, ap, sym, subst}
+use Rattle.std.proofs.Common.{◌≡◌, ◌≢◌, ℕ, ◌^◌, List, [], Ok, All, arith, inl, refl, ap, sym, subst}
 use Rattle.std.specs.Prelude.{◌-◌, IsSome, map, pos}
 use Rattle.rp_base.specs.Plan.{Fits, IsTarget}
 use Rattle.rp_base.specs.declared.guid.Guid.{Guid}
@@ -40,8 +40,7 @@ use Rattle.rp_sizes.specs.Needs.{AreFactsOn, matched_of, wanted_of}
 use Rattle.rp_plan.specs.Goal.{goal, plan_with}
 use Rattle.rp_plan.specs.Plannable.{IsGiven, IsPlannable}
 use Rattle.rp_plan.proofs.Fitting.{goal_fits}
-use Rattle.rp_plan.proofs.Formed.{goal_in_place, goal_laid_out, goal_writable, is_named}
-use Rattle.rp_plan.proofs.Given.{last_bounds}
+use Rattle.rp_plan.proofs.Formed.{goal_in_place, goal_writable, is_named}
 use Rattle.rp_plan.proofs.Parts.{IsMadeOf, made_of}
 use Rattle.rp_idle.specs.Idle.{IsIdle, IsPlanned}
 use Rattle.rp_idle.proofs.Accepted.{plannable}
@@ -162,18 +161,17 @@ module _ (sector : ℕ) (old : List ℕ) (empty : Empty) (seen : Seen) (target :
   -- the image that the calls leave
   pub idle_after : (body calls : List Call) → plan.dropped ≡ [] → AreCallsOf seen plan body calls
       → IsIdle sector (all_done old calls) defs seed
-  idle_after body calls whole are =
-      let low = bounds seen target defs facts seed plan ready aims is.definitions is.goal_is whole in record {
-        seen = seen_after seen plan;
-        plan = plan_with (seen_after seen plan) plan.target defs [] seed (pos (2 ^ 31 - 1)) plan.goal;
-        shows = subst (λ z. accepted z (all_done old calls) Refuse ≡ Ok (seen_after seen plan))
-            (plan-sector sector old empty seen plan plan_for)
-            (accepted_after old seen plan (plan-given sector old empty seen plan plan_for) body calls are Refuse
-            (λ e. let f : Refuse ≡ Require = e in cc));
-        matched = each_matched seen target defs facts seed plan ready aims is.definitions is.goal_is whole;
-        goal_is = next_is seen target defs facts seed plan ready aims is.definitions is.goal_is whole;
-        steps_are = no_steps_again seen target defs facts seed plan ready aims is.definitions is.goal_is whole;
-      }
+  idle_after body calls whole are = record {
+    seen = seen_after seen plan;
+    plan = plan_with (seen_after seen plan) plan.target defs [] seed (pos (2 ^ 31 - 1)) plan.goal;
+    shows = subst (λ z. accepted z (all_done old calls) Refuse ≡ Ok (seen_after seen plan))
+        (plan-sector sector old empty seen plan plan_for)
+        (accepted_after old seen plan (plan-given sector old empty seen plan plan_for) body calls are Refuse
+        (λ e. let f : Refuse ≡ Require = e in cc));
+    matched = each_matched seen target defs facts seed plan ready aims is.definitions is.goal_is whole;
+    goal_is = next_is seen target defs facts seed plan ready aims is.definitions is.goal_is whole;
+    steps_are = no_steps_again seen target defs facts seed plan ready aims is.definitions is.goal_is whole;
+  }
 
   -- the image on which they are done whole that gives the new rows these contents
   idle_with : (body calls : List Call) (contents : Contents) (image : List ℕ) → plan.dropped ≡ [] → AreCallsOf seen plan body calls

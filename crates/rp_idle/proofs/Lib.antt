@@ -13,4 +13,5 @@ mod Rows
 mod Settled
 mod Sizes
 mod Stepless
+mod Unchanged
 mod Wanted

@@ -18,7 +18,8 @@ use Rattle.rp_gpt.specs.declared.table_fault.Empty.{Empty}
 use Rattle.rp_gpt.specs.declared.table_fault.Empty.TheVariants.{Refuse, Allow, Require}
 use Rattle.rp_gpt.specs.declared.table_fault.TableFault.{TableFault}
 use Rattle.rp_gpt.specs.declared.table_fault.TableFault.TheVariants as faults
-use Rattle.rp_plan.specs.Goal.{goal}
+use Rattle.rp_plan.specs.Goal.{goal, notes_of}
+use Rattle.rp_plan.proofs.Parts.{made_of}
 use Rattle.rp_sizes.specs.declared.need.Fact.{Fact}
 use Rattle.rp_sizes.specs.declared.need.Need.{Need}
 use Rattle.rp_sizes.specs.Needs.{AreFactsOn, kinds_of, matched_of, wanted_of}
@@ -27,6 +28,8 @@ use Rattle.rp_steps.specs.Contents.{Sources}
 use Rattle.rp_steps.specs.Steps.{steps}
 use Rattle.rp_steps.specs.declared.step.Step.{Step}
 use Rattle.rp_idle.specs.Idle.{IsIdle}
+use Rattle.rp_idle.proofs.Noted.{IsSame, notes_same}
+use Rattle.rp_idle.proofs.Unchanged.{table_stays}
 use Rattle.rp_idle.proofs.Wanted.{AllHave, no_needs}
 
 -- an image that is accepted where one without a table is refused is accepted as the same by other options, if at all
@@ -79,20 +82,35 @@ none_left (fact ∷ facts) needs none are =
 same_plan : (r : Result Plan Demand) (a b : Plan) → r ≡ Ok a → r ≡ Ok b → b ≡ a
 same_plan r a b is other = let e : Ok b ≡ Ok a = sym other ∙ is in cc
 
--- the plan for an idle image at its own length has no calls
+module _ (sector : ℕ) (image : List ℕ) (defs : List Definition) (seed : Guid) (empty : Empty) (seen : Seen) (facts : List Fact) (plan : Plan)
+    (idle : IsIdle sector image defs seed) (shown_as : accepted sector image empty ≡ Ok seen) (known : AreFactsOn (wanted_of seen.shown defs) facts)
+    (is : goal seen seen.sectors defs facts seed ≡ Ok plan) where
+  -- the plan for an idle image at its own length has no steps, and each row is noted as the same
+  pub nothing_left : (steps plan seen ≡ []) × All IsSame plan.notes
+  nothing_left =
+      let same = same_seen sector image empty idle.seen seen idle.shows shown_as in
+      let are = subst (λ (s : Seen). AreFactsOn (wanted_of s.shown defs) facts) same known in
+      let have = all_have idle.seen.shown defs idle.matched in
+      let none = none_left facts (wanted_of idle.seen.shown defs) (no_needs (matched_of idle.seen.shown defs) defs have) are in
+      let here : goal idle.seen idle.seen.sectors defs [] seed ≡ Ok plan =
+      ap (λ (fs : List Fact). goal idle.seen idle.seen.sectors defs fs seed) (sym none)
+      ∙ ap (λ (s : Seen). goal s s.sectors defs facts seed) (sym same) ∙ is in
+      let plans = same_plan (goal idle.seen idle.seen.sectors defs [] seed) idle.plan plan idle.goal_is here in
+      let made = made_of idle.seen idle.seen.sectors defs [] seed idle.plan idle.goal_is in
+      let t = made.1.threshold in
+      let notes : idle.plan.notes ≡ notes_of idle.seen defs [] seed t idle.plan.goal.rows = ap (λ (p : Plan). p.notes) made.2.same in
+      let rows : idle.plan.goal.rows ≡ idle.seen.shown.rows = ap (λ (g : Table). g.rows) (table_stays idle.plan idle.seen idle.steps_are) in (
+        ap (λ (p : Plan). steps p seen) plans ∙ ap (steps idle.plan) same ∙ idle.steps_are,
+        subst (λ (p : Plan). All IsSame p.notes) (sym plans)
+            (subst (All IsSame) (sym (notes ∙ ap (notes_of idle.seen defs [] seed t) rows)) (notes_same idle.seen defs [] seed t have)),
+      )
+
+-- nor has it calls
 pub no_calls : (sector : ℕ) (image : List ℕ) (defs : List Definition) (seed : Guid) (empty : Empty) (seen : Seen) (facts : List Fact)
     (plan : Plan)
     (sources : Sources) → IsIdle sector image defs seed → accepted sector image empty ≡ Ok seen → AreFactsOn (wanted_of seen.shown defs)
     facts
     → goal seen seen.sectors defs facts seed ≡ Ok plan → calls plan seen sources ≡ []
 no_calls sector image defs seed empty seen facts plan sources idle shown_as known is =
-    let same = same_seen sector image empty idle.seen seen idle.shows shown_as in
-    let are = subst (λ (s : Seen). AreFactsOn (wanted_of s.shown defs) facts) same known in
-    let none = none_left facts (wanted_of idle.seen.shown defs)
-    (no_needs (matched_of idle.seen.shown defs) defs (all_have idle.seen.shown defs idle.matched)) are in
-    let here : goal idle.seen idle.seen.sectors defs [] seed ≡ Ok plan =
-    ap (λ (fs : List Fact). goal idle.seen idle.seen.sectors defs fs seed) (sym none)
-    ∙ ap (λ (s : Seen). goal s s.sectors defs facts seed) (sym same) ∙ is in
-    let plans = same_plan (goal idle.seen idle.seen.sectors defs [] seed) idle.plan plan idle.goal_is here in
-    let nothing_left : steps plan seen ≡ [] = ap (λ (p : Plan). steps p seen) plans ∙ ap (steps idle.plan) same ∙ idle.steps_are in
-    ap (λ (ss : List Step). flat_map (calls_of plan sources) ss) nothing_left
+    ap (λ (ss : List Step). flat_map (calls_of plan sources) ss)
+    (nothing_left sector image defs seed empty seen facts plan idle shown_as known is).0

@@ -19,6 +19,7 @@ ghost use Rattle.rp_sizes.specs.Needs.{AreFactsOn, matched_of, wanted_of};
 ghost use Rattle.rp_sizes.specs.declared.need.Fact.{Fact};
 ghost use Rattle.rp_steps.specs.Calls.{calls as calls_for};
 ghost use Rattle.rp_steps.specs.Contents.{NotesFit, Sources, contents};
+ghost use Rattle.rp_steps.specs.Steps.{steps as steps_for};
 ghost use Rattle.rp_stops.specs.Final.{IsFinal};
 ghost use Rattle.rp_stops.specs.Order.{AreCallsOf};
 ghost use Rattle.rp_stops.specs.Rows.{grown};
@@ -51,10 +52,11 @@ pub fn what_is_done_is_idle()
         → IsFinal old seen plan (contents plan sources (grown old plan)) image → IsIdle sector image defs seed }
 {}
 
-/// On an idle image whose target is its own length the plan has no calls, by whichever option the image is accepted.
+/// On an idle image whose target is its own length the plan has no steps and no calls, and each row is noted as the same, by
+/// whichever option the image is accepted.
 pub fn idle_images_need_no_calls()
     ensures { (sector : ℕ) (image : List ℕ) (defs : List Definition) (seed : Guid) (empty : Empty) (seen : Seen) (facts : List Fact)
         (plan : Plan) (sources : Sources) → IsIdle sector image defs seed → accepted sector image empty ≡ Ok seen
         → AreFactsOn (wanted_of seen.shown defs) facts → goal seen seen.sectors defs facts seed ≡ Ok plan
-        → calls_for plan seen sources ≡ [] }
+        → (calls_for plan seen sources ≡ []) × (steps_for plan seen ≡ []) × All (λ (note : Note). note.change ≡ Change.Same) plan.notes }
 {}
