@@ -2,7 +2,6 @@
 use Rattle.std.proofs.Common.{ℕ, ◌≡◌, ◌⊎◌, List, [], Bool, Option, Some, None, Result, Ok, Err, refl, sym, ◌∙◌, ap, subst, inl, inr, arith, true≢false}
 use Rattle.std.specs.Prelude.{IfSome}
 use Rattle.rp_base.specs.Answers.{Gives}
-use Rattle.rp_base.specs.Faults.{Rose}
 use Rattle.rp_denial.specs.Denials.{Denies}
 use Rattle.rp_disk.specs.History.{History, held}
 use Rattle.rp_dissect.specs.Dissected.{verdicts}
@@ -10,7 +9,6 @@ use Rattle.rp_dissect_command.specs.Dissects.{DissectsRead, Reads, Tells}
 use Rattle.rp_dissect_command.specs.Statuses.{DissectByStatus}
 use Rattle.rp_gpt.specs.declared.table_fault.TableFault.{TableFault}
 use Rattle.rp_gpt.specs.declared.table_fault.TableFault.TheVariants as table
-use Rattle.rp_outcome.specs.Causes.{HasCauses}
 use Rattle.rp_outcome.specs.Device.{Device, IsOnlyRead, history}
 use Rattle.rp_outcome.specs.Output.{Output, Finishes, Prints, Refuses}
 use Rattle.rp_outcome.specs.Refusals.{disk_refusal, line_of, memory_refusal, table_refusal}
@@ -19,7 +17,6 @@ use Rattle.rp_policy.specs.declared.policy.Policy.{Policy}
 use Rattle.rp_policy.specs.declared.policy.PolicyFault.{PolicyFault}
 use Rattle.rp_types.specs.declared.arch.Arch.{Arch}
 use Rattle.rp_types.specs.declared.arch.Designator.{Designator}
-use Rattle.rp_verdict.specs.Verdicts.{IsOwn}
 use Rattle.rp_verdict.specs.declared.verdict.DissectFault.{DissectFault}
 use Rattle.rp_verdict.specs.declared.verdict.DissectFault.TheVariants as faults
 use Rattle.rp_verdict.specs.declared.verdict.Verdicts.{Verdicts}
@@ -79,7 +76,7 @@ module _ (arch : Arch) (sector : ℕ) (json : Bool) (disk later : Device) (out a
       sink_kept = λ f. printed.kept;
     };
     one_of = inl e;
-    done = λ f. (v, says (history disk) sector arch p (Ok v) (λ f. cc) (λ f. cc) reads.verdicts_are, printed);
+    done = λ f. (v, reads.verdicts, says (history disk) sector arch p (Ok v) (λ f. cc) (λ f. cc) reads.verdicts_are, printed);
     cut = λ f. clash status 0 9 e f (λ h. omega arith);
     refused = λ f. clash status 0 4 e f (λ h. omega arith);
     denied = λ f. clash status 0 6 e f (λ h. omega arith);
@@ -98,7 +95,7 @@ module _ (arch : Arch) (sector : ℕ) (json : Bool) (disk later : Device) (out a
     };
     one_of = inr (inr (inr (inr (inl e))));
     done = λ f. clash status 9 0 e f (λ h. omega arith);
-    cut = λ f. (v, says (history disk) sector arch p (Ok v) (λ f. cc) (λ f. cc) reads.verdicts_are, printed);
+    cut = λ f. (v, reads.verdicts, says (history disk) sector arch p (Ok v) (λ f. cc) (λ f. cc) reads.verdicts_are, printed);
     refused = λ f. clash status 9 4 e f (λ h. omega arith);
     denied = λ f. clash status 9 6 e f (λ h. omega arith);
     disk_line = λ f. clash status 9 7 e f (λ h. omega arith);

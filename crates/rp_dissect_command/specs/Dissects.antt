@@ -1,5 +1,5 @@
 -- What `dissect` does.
-use Rattle.std.specs.Prelude.{ℕ, ◌≡◌, ◌⊎◌, List, Bool, Result, Ok, Err, IfSome, IfErr}
+use Rattle.std.specs.Prelude.{ℕ, ◌≡◌, ◌⊎◌, List, Bool, Result, Ok, Err, IfSome, IfOk, IfErr}
 use Rattle.rp_base.specs.Answers.{Gives}
 use Rattle.rp_base.specs.Faults.{Rose}
 use Rattle.rp_denial.specs.Denials.{Denies, policy_refusal}
@@ -12,19 +12,20 @@ use Rattle.rp_policy.specs.Reading.{policy_of}
 use Rattle.rp_policy.specs.declared.policy.Policy.{Policy}
 use Rattle.rp_policy.specs.declared.policy.PolicyFault.{PolicyFault}
 use Rattle.rp_types.specs.declared.arch.Arch.{Arch}
-use Rattle.rp_verdict.specs.Verdicts.{IsOwn}
+use Rattle.rp_verdict.specs.Verdicts.{AreVerdicts, IsOwn}
 use Rattle.rp_verdict.specs.declared.verdict.DissectFault.{DissectFault}
 use Rattle.rp_verdict.specs.declared.verdict.DissectFault.TheVariants as faults
 use Rattle.rp_verdict.specs.declared.verdict.Verdicts.{Verdicts}
 use Rattle.rp_verdict_text.specs.Reports.{verdict_report}
 
 -- a disk was read alone, with this answer: the verdicts on the image where the disk tells it, but for a failure of the disk,
--- which it counted, and want of memory
+-- which it counted, and want of memory; and over every disk a verdict for each designator, none of which denies, or a fault
 pub record Reads (policy : Policy) (arch : Arch) (sector : ℕ) (before now : Device) (answer : Result Verdicts DissectFault) : Type 0 where
   pub only_read : IsOnlyRead before now
   pub verdicts_are : IfSome (history before) (λ h. (answer ≡ Err faults.Disk) ⊎ Gives faults.Memory (verdicts sector (held h) arch policy) answer)
   pub failed : answer ≡ Err faults.Disk → Rose before.faults now.faults
   pub kept : (answer ≡ Err faults.Disk) ⊎ (now.faults ≡ before.faults)
+  pub verdicts : IfOk answer AreVerdicts
   pub own : IfErr answer IsOwn
 
 -- a fault is told

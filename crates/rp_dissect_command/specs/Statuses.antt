@@ -14,6 +14,7 @@ use Rattle.rp_policy.specs.declared.policy.Policy.{Policy}
 use Rattle.rp_policy.specs.declared.policy.PolicyFault.{PolicyFault}
 use Rattle.rp_types.specs.declared.arch.Arch.{Arch}
 use Rattle.rp_types.specs.declared.arch.Designator.{Designator}
+use Rattle.rp_verdict.specs.Verdicts.{AreVerdicts}
 use Rattle.rp_verdict.specs.declared.verdict.DissectFault.{DissectFault}
 use Rattle.rp_verdict.specs.declared.verdict.DissectFault.TheVariants as faults
 use Rattle.rp_verdict.specs.declared.verdict.Verdicts.{Verdicts}
@@ -33,18 +34,18 @@ abbrev pub TellsDenial : Policy → Arch → ℕ → Device → Output → Outpu
 TellsDenial policy arch sector disk out after = (d : Designator) × ((rule : Rule)
     × Says policy arch sector disk (Err (faults.Denied d rule)) × Prints out after (denied_line d rule))
 
--- by what the policy's text is, and of the image where the disk tells it: 0, the verdicts were printed; 9, a part, for the
--- sink failed; 4, why the image isn't accepted; 6, the text is no policy, and the disk is as before, or the first denial; 7,
--- the disk failed, as a line tells; 10, want of memory, and nothing was printed
+-- by what the policy's text is, and of the image where the disk tells it: 0, the verdicts were printed, one for each designator,
+-- none of which denies; 9, a part, for the sink failed; 4, why the image isn't accepted; 6, the text is no policy, and the disk
+-- is as before, or the first denial; 7, the disk failed, as a line tells; 10, want of memory, and nothing was printed
 pub record DissectByStatus (read : Result Policy PolicyFault) (arch : Arch) (sector : ℕ) (json : Bool) (disk later : Device)
     (out after : Output) (status : ℕ) : Type 0 where
   pub only_read : IsOnlyRead disk later
   pub causes : HasCauses disk later out after status
   pub one_of : (status ≡ exit.done) ⊎ (status ≡ exit.image) ⊎ (status ≡ policy) ⊎ (status ≡ exit.disk) ⊎ (status ≡ exit.sink) ⊎ (status ≡ exit.memory)
   pub done : status ≡ exit.done → IsOkAnd read (λ p.
-      (v : Verdicts) × Says p arch sector disk (Ok v) × PrintsAll out after (verdict_report json v))
+      (v : Verdicts) × AreVerdicts v × Says p arch sector disk (Ok v) × PrintsAll out after (verdict_report json v))
   pub cut : status ≡ exit.sink → IsOkAnd read (λ p.
-      (v : Verdicts) × Says p arch sector disk (Ok v) × PrintsPart out after (verdict_report json v))
+      (v : Verdicts) × AreVerdicts v × Says p arch sector disk (Ok v) × PrintsPart out after (verdict_report json v))
   pub refused : status ≡ exit.image → IsOkAnd read (λ p. TellsTable p arch sector disk out after)
   pub denied : status ≡ policy → IsErrAnd read (λ fault. Prints out after (line_of (policy_refusal fault)))
       ⊎ IsOkAnd read (λ p. TellsDenial p arch sector disk out after)
