@@ -5,6 +5,7 @@ ghost use Rattle.std.specs.Prelude.{◌≤◌, ◌+◌, ◌*◌, ◌^◌, None};
 use rp_base::{Failed, Guid};
 use rp_disk::Disk;
 use rp_io::Sources;
+use rp_tree::ROOM;
 use rp_verity::{Builder, TreeOut, levels, root_of, write_superblock};
 
 /// The most data blocks of a tree.
@@ -62,7 +63,7 @@ fn tree<D: Disk, K: TreeOut>(
     requires some { 1 ≤ blocks }
     requires few { blocks ≤ 2 ^ 32 }
 {
-    let mut room = [0u8; 24576];
+    let mut room = [0u8; ROOM];
     let _count = levels(blocks);
     let mut builder = Builder::new(blocks, salt, &mut room);
     for k in 0..blocks {
@@ -86,7 +87,7 @@ pub fn root<S: Sources>(
     if len > BLOCK * blocks {
         return Err(Failed);
     }
-    let mut room = [0u8; 24576];
+    let mut room = [0u8; ROOM];
     let _count = levels(blocks);
     root_of(sources, path, len, blocks, salt, &mut room)
 }

@@ -4,7 +4,7 @@ ghost use Rattle.std.specs.Prelude.{◌↔◌, ◌≤◌, ◌+◌, ◌^◌, IsTr
 
 use rp_base::Row;
 use rp_disk::Disk;
-use rp_tree::{Bad, check_all, check_root};
+use rp_tree::{Bad, WIDE_ROOM, check_all, check_root};
 use std::alloc::Global;
 
 /// `right`, or what is wrong first of the tree in a row over another; nothing where the disk can't be read, or where the
@@ -13,7 +13,7 @@ pub fn judge<D: Disk>(alloc: Global, disk: &mut D, payload: &Row, hash: &Row) ->
     if !is_row(payload) || !is_row(hash) {
         return None;
     }
-    let mut room = [0u8; 24576];
+    let mut room = vec![in alloc; 0u8; WIDE_ROOM].ok()?;
     let rooted = check_root(disk, payload, hash, &mut room).ok()?;
     let bad = check_all(disk, payload, hash, &mut room).ok()?;
     if rooted == matches!(bad, Some(Bad::Superblock | Bad::Top)) {
