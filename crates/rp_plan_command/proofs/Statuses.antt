@@ -191,14 +191,14 @@ module _ (request : Request) (json : Bool) (dirs : List (List ℕ)) (folders rea
       all_told : (b : Bool) → must_repair request.size seen ≡ b → (F : List Stored → Type 0) (answer : Result Planned Refusal)
           → ((files : List Stored) → F files → planned_unless b request definitions.list files seen ≡ answer) → IfSome sources.told F
           → Told request json dirs folders read disk later sources drained out after status (and_then answer (λ planned. Ok (definitions, planned)))
-      all_told b repair F answer planned held =
+      all_told b repair F answer planned by_files =
           where_each folders.told (history disk) sources.told (λ tree. definitions_in request.arch tree dirs ≡ Ok definitions)
           (λ h. seen_of request.sector request.empty (held h) ≡ Ok seen) F
           (λ tree h files. told_plan request dirs tree (held h) files ≡ and_then answer (λ planned. Ok (definitions, planned)))
           (λ tree h files told is f. plan_told request dirs tree (held h) files definitions answer told
           (image_told request definitions.list (held h) files (Ok seen) is
           ∙ ap (λ (b : Bool). planned_unless b request definitions.list files seen) repair ∙ planned files f))
-          listed sighted held
+          listed sighted by_files
 
       -- the image has to be repaired first
       by_repair : must_repair request.size seen ≡ true → Refuses out after repair_refusal status
