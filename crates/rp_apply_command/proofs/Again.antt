@@ -1,7 +1,8 @@
 -- A run on an idle image makes no call but its sync.
-use Rattle.std.proofs.Common.{◌≡◌, ◌∙◌, ℕ, ◌*◌, ◌/◌, ◌≤◌, List, [], ◌∷◌, ◌++◌, Option, Some, None, Ok, length, refl, sym, ap, subst, arith}
-use Rattle.std.specs.Prelude.{IfSome, map, max}
-use Rattle.rp_base.specs.declared.guid.Guid.{Guid}
+use Rattle.std.proofs.Common.{◌≡◌, ◌∙◌, ℕ, ◌/◌, ◌≤◌, List, [], ◌∷◌, ◌++◌, Some, All, Ok, length, refl, sym, ap, subst, arith}
+use Rattle.std.specs.Prelude.{IfSome, max}
+use Rattle.rp_base.specs.declared.plan.Change.TheVariants.{Same}
+use Rattle.rp_base.specs.declared.plan.Note.{Note}
 use Rattle.rp_base.specs.declared.plan.Plan.{Plan}
 use Rattle.rp_base.specs.declared.seen.Seen.{Seen}
 use Rattle.rp_defs.specs.declared.definition.Definition.{Definition}
@@ -12,7 +13,7 @@ use Rattle.rp_disk.specs.Runs.{MadeFirst}
 use Rattle.rp_disk.specs.declared.call.Call.{Call}
 use Rattle.rp_disk.specs.declared.call.Call.TheVariants.{Sync}
 use Rattle.rp_idle.specs.Idle.{IsIdle}
-use Rattle.rp_idle.proofs.Public.{no_calls}
+use Rattle.rp_idle.proofs.Public.{no_calls, nothing_left}
 use Rattle.rp_io.specs.declared.stored.Stored.{Stored}
 use Rattle.rp_outcome.specs.Device.{Device}
 use Rattle.rp_outcome.specs.Store.{Store}
@@ -20,10 +21,10 @@ use Rattle.rp_plan.specs.Goal.{goal}
 use Rattle.rp_planned.specs.Planning.{target_of}
 use Rattle.rp_planned.specs.declared.planned.Planned.{Planned}
 use Rattle.rp_planned.specs.declared.request.Request.{Request}
-use Rattle.rp_steps.specs.Calls.{calls_of_steps, contents_calls, calls as calls_for}
-use Rattle.rp_steps.specs.Steps.{mbr_phases, written_copies}
+use Rattle.rp_steps.specs.Calls.{contents_calls, calls as calls_for}
+use Rattle.rp_steps.specs.Steps.{steps}
 use Rattle.rp_steps.proofs.Made.{calls-flat}
-use Rattle.rp_stops.specs.Order.{contents_blocks, copies, growth}
+use Rattle.rp_stops.specs.Order.{contents_blocks, growth}
 use Rattle.rp_stops.proofs.Accepting.{accepted-sized}
 use Rattle.rp_apply.specs.Called.{AreAlike, AreCallsFor, calls_around, no_sources}
 use Rattle.rp_apply_command.specs.Ends.{CarriesSome, StopsSafely}
@@ -59,25 +60,29 @@ greatest : (a b : ℕ) → b ≤ a → max a b ≡ a
 greatest a b le = grind arith
 
 -- a run on an idle image whose length isn't to grow
-pub no_more : (request : Request) (list : List Definition) (disk later : Device) (sources : Store (List Stored)) (planned : Planned)
-    (calls : List Call) (bytes : List ℕ) → CarriesSome request list disk later sources planned calls → disk.first ≡ Some bytes
-    → IsIdle request.sector (held (history_of bytes disk.calls)) list request.seed
-    → request.size ≤ length (held (history_of bytes disk.calls)) → calls ≡ []
-no_more request list disk later sources planned calls bytes some tells idle long =
-    let safe : StopsSafely request list disk later planned some.are.body bytes =
-    subst (λ o. IfSome o (StopsSafely request list disk later planned some.are.body)) tells some.stops in
-    let known = safe.goal.1 in
-    let len = (accepted-sized request.sector (held (history_of bytes disk.calls)) request.empty planned.seen known.of_sector known.seen_of).1.len in
-    let target : target_of request.size planned.seen ≡ planned.seen.sectors = greatest planned.seen.sectors (request.size / 512) (omega (arith, len, long)) in
-    none_alike planned.seen planned.plan calls
-    (no_calls request.sector (held (history_of bytes disk.calls)) list request.seed request.empty planned.seen safe.goal.0 planned.plan
-    no_sources idle known.seen_of known.known
-    (subst (λ t. goal planned.seen t list safe.goal.0 request.seed ≡ Ok planned.plan) target known.goal_is)) some.are
+module _ (request : Request) (list : List Definition) (disk later : Device) (sources : Store (List Stored)) (planned : Planned)
+    (calls : List Call) (bytes : List ℕ) (some : CarriesSome request list disk later sources planned calls) (tells : disk.first ≡ Some bytes)
+    (idle : IsIdle request.sector (held (history_of bytes disk.calls)) list request.seed)
+    (long : request.size ≤ length (held (history_of bytes disk.calls))) where
+  safe : StopsSafely request list disk later planned some.are.body bytes
+  safe = subst (λ o. IfSome o (StopsSafely request list disk later planned some.are.body)) tells some.stops
 
-pub made_no_more : (request : Request) (list : List Definition) (disk later : Device) (sources : Store (List Stored)) (planned : Planned)
-    (calls : List Call) (bytes : List ℕ) → CarriesSome request list disk later sources planned calls → disk.first ≡ Some bytes
-    → IsIdle request.sector (held (history_of bytes disk.calls)) list request.seed
-    → request.size ≤ length (held (history_of bytes disk.calls)) → MadeFirst disk.calls (Sync ∷ []) later.calls
-made_no_more request list disk later sources planned calls bytes some tells idle long =
-    subst (λ l. MadeFirst disk.calls (Sync ∷ l) later.calls)
-    (no_more request list disk later sources planned calls bytes some tells idle long) some.made
+  own_length : goal planned.seen planned.seen.sectors list safe.goal.0 request.seed ≡ Ok planned.plan
+  own_length =
+      let known = safe.goal.1 in
+      let len = (accepted-sized request.sector (held (history_of bytes disk.calls)) request.empty planned.seen known.of_sector known.seen_of).1.len in
+      let target : target_of request.size planned.seen ≡ planned.seen.sectors = greatest planned.seen.sectors (request.size / 512) (omega (arith, len, long)) in
+      subst (λ t. goal planned.seen t list safe.goal.0 request.seed ≡ Ok planned.plan) target known.goal_is
+
+  -- its plan has no steps, and each row is noted as the same
+  pub none_to_do : (steps planned.plan planned.seen ≡ []) × All (λ (note : Note). note.change ≡ Same) planned.plan.notes
+  none_to_do = nothing_left request.sector (held (history_of bytes disk.calls)) list request.seed request.empty planned.seen safe.goal.0
+      planned.plan idle safe.goal.1.seen_of safe.goal.1.known own_length
+
+  pub no_more : calls ≡ []
+  no_more = none_alike planned.seen planned.plan calls
+      (no_calls request.sector (held (history_of bytes disk.calls)) list request.seed request.empty planned.seen safe.goal.0 planned.plan
+      no_sources idle safe.goal.1.seen_of safe.goal.1.known own_length) some.are
+
+  pub made_no_more : MadeFirst disk.calls (Sync ∷ []) later.calls
+  made_no_more = subst (λ l. MadeFirst disk.calls (Sync ∷ l) later.calls) no_more some.made

@@ -1,6 +1,6 @@
 -- Calls that are those of a plan, but for the bytes of new rows, are calls of which the law of every stop speaks.
-use Rattle.std.proofs.Common.{◌≡◌, ℕ, ◌+◌, ◌*◌, ◌≤◌, List, [], ◌∷◌, map, length, refl, arith}
-use Rattle.rp_base.specs.Plan.{IsWellFormed, Noted}
+use Rattle.std.proofs.Common.{List, [], ◌∷◌, map, arith}
+use Rattle.rp_base.specs.Plan.{IsWellFormed}
 use Rattle.rp_base.specs.declared.plan.Plan.{Plan}
 use Rattle.rp_base.specs.declared.seen.Seen.{Seen}
 use Rattle.rp_base.specs.declared.table.Row.{Row}

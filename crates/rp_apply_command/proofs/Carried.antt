@@ -38,7 +38,7 @@ use Rattle.rp_apply.proofs.Anyhow.{are_calls_like}
 use Rattle.rp_apply.proofs.Judging.{changes_at}
 use Rattle.rp_apply.proofs.Laid.{laid}
 use Rattle.rp_apply_command.specs.Applies.{CarriesOut, HasCommitCauses, IsCommitRefusal, Outcome}
-use Rattle.rp_apply_command.specs.Carrying.{HasSeenLength}
+use Rattle.rp_apply_command.specs.Carrying.{HasSeenLength, HasToldRoots}
 use Rattle.rp_apply_command.proofs.Rooted.{root_of_row}
 
 -- the refusal of each fault
@@ -124,7 +124,8 @@ unchanged plan sources (Err (SourceChanged planned copied)) changes roots =
     absurd (clash plan sources planned copied any.1.1.role has any.4)
 
 module _ (definitions : Definitions) (planned : Planned) (disk later : Device) (sources drained : Store (List Stored)) (ready : Ready)
-    (is : IsReadyFor planned.plan planned.seen definitions.list ready) (long : HasSeenLength planned disk) where
+    (is : IsReadyFor planned.plan planned.seen definitions.list ready) (long : HasSeenLength planned disk)
+    (roots : HasToldRoots definitions.list planned disk sources) where
   formed : IsWellFormed planned.seen planned.plan
   formed = subst (λ (s : Seen). IsWellFormed s planned.plan) is.seen_is
       (subst (λ (p : Plan). IsWellFormed ready.seen p) is.plan_is is.ready_is.well_formed)
@@ -149,26 +150,27 @@ module _ (definitions : Definitions) (planned : Planned) (disk later : Device) (
   Exact founds result files =
       (all_calls planned.plan founds (steps planned.plan planned.seen)
       ≡ calls_for planned.plan planned.seen (sources_in files (paths_of definitions.list)))
-      × (HavePlannedRoots planned.plan (sources_in files (paths_of definitions.list))
-      → IfErr (outcome_of result) (λ refusal. refusal.status ≢ exit.changed))
+      × IfErr (outcome_of result) (λ refusal. refusal.status ≢ exit.changed)
 
   exact_is : {T : Type 0} (founds : List Found) (result : Result T ApplyFault) → Makes founds result
       → IfSome (history disk) (λ h. IfSome sources.told (Exact founds result))
-  exact_is founds result makes = by disk.first sources.told makes long where
+  exact_is founds result makes = by disk.first sources.told makes long roots where
     by : (o : Option (List ℕ)) (t : Option (List Stored))
         → MakesSteps planned.plan (outside_of t (paths_of definitions.list) o) (steps planned.plan planned.seen) founds disk.calls
         later.calls result
         → IfSome (history_told o disk.calls) (λ h. length (held h) ≡ 512 * planned.seen.sectors)
+        → IfSome (history_told o disk.calls) (λ h. IfSome t (λ files.
+        HavePlannedRoots planned.plan (sources_in files (paths_of definitions.list))))
         → IfSome (history_told o disk.calls) (λ h. IfSome t (Exact founds result))
-    by None t m l = tt
-    by (Some bytes) None m l = tt
-    by (Some bytes) (Some files) m l =
+    by None t m l r = tt
+    by (Some bytes) None m l r = tt
+    by (Some bytes) (Some files) m l r =
         let from = sources_in files (paths_of definitions.list) in (
           all_tied planned.plan (outside_of (Some files) (paths_of definitions.list) (Some bytes)) files bytes refl refl disk.calls founds
               (steps planned.plan planned.seen) m.found_are
               (laid planned.plan from planned.seen formed fit (held (history_of bytes disk.calls)) l),
           unchanged planned.plan from result
-              (changes_at planned.seen planned.plan formed fit (paths_of definitions.list) files bytes founds disk.calls later.calls result m l),
+              (changes_at planned.seen planned.plan formed fit (paths_of definitions.list) files bytes founds disk.calls later.calls result m l) r,
         )
 
   strays_are : IfSome (history disk) (λ h. length (held h) ≡ 512 * planned.seen.sectors → later.strays ≡ disk.strays)

@@ -1,9 +1,10 @@
 -- How a run of `apply` ends on the disk.
-use Rattle.std.proofs.Common.{◌≡◌, ◌⊎◌, ◌∙◌, ℕ, ◌%◌, ◌^◌, ◌≤◌, List, [], ◌∷◌, ◌++◌, Bool, Result, Ok, Err, refl, sym, ap, subst, inl, inr}
-use Rattle.std.specs.Prelude.{IfOk, IfSome, Option, Some, None, length}
+use Rattle.std.proofs.Common.{◌≡◌, ◌∙◌, ℕ, ◌%◌, ◌^◌, ◌≤◌, List, [], ◌∷◌, ◌++◌, Bool, true, Result, Ok, Err, refl, sym, ap, subst, inl, inr, arith}
+use Rattle.std.specs.Prelude.{All, IfOk, IfSome, Option, Some, None, length}
 use Rattle.rp_idle.specs.Idle.{IsIdle}
 use Rattle.rp_base.specs.Geometry.{IsSector}
-use Rattle.rp_defs.specs.declared.definition.Definition.{Definition}
+use Rattle.rp_base.specs.declared.plan.Change.TheVariants.{Same}
+use Rattle.rp_base.specs.declared.plan.Note.{Note}
 use Rattle.rp_defs.specs.declared.definition.Definitions.{Definitions}
 use Rattle.rp_disk.specs.History.{held}
 use Rattle.rp_disk.specs.Made.{dones, history_of}
@@ -14,18 +15,23 @@ use Rattle.rp_disk.proofs.Runs.{made_first}
 use Rattle.rp_io.specs.Files.{Tree}
 use Rattle.rp_io.specs.declared.stored.Stored.{Stored}
 use Rattle.rp_outcome.specs.Device.{Device}
-use Rattle.rp_outcome.specs.Output.{Output, Finishes, Refuses}
-use Rattle.rp_outcome.specs.Refusals.{Refusal, disk_refusal, folder_refusal, memory_refusal}
+use Rattle.rp_outcome.specs.Output.{Output, Finishes, PrintsAll, Refuses}
+use Rattle.rp_outcome.specs.Refusals.{Refusal, folder_refusal, memory_refusal}
+use Rattle.rp_outcome.specs.Statuses as exit
 use Rattle.rp_outcome.specs.Store.{Store}
 use Rattle.rp_planned.specs.Planning.{PlansImage}
 use Rattle.rp_planned.specs.declared.planned.Planned.{Planned}
 use Rattle.rp_planned.specs.declared.request.Request.{Request}
 use Rattle.rp_reading.specs.Reading.{IsReadingRefusal, ReadsDefinitions, definitions_in}
 use Rattle.rp_reading.specs.Stages.{Settles}
-use Rattle.rp_apply_command.specs.Applies.{Applies, AppliesBehind, AppliesOpened, AppliesPlanned, CarriesOut, Commits, EndsHere, IsCommitRefusal, Opens, Outcome, PlanFits, Tells, applied_report}
-use Rattle.rp_apply_command.specs.Ends.{AreRead, Ends, IsBefore, IsBehind, IsBetween, LeavesAll}
+use Rattle.rp_report.specs.Reports.{plan_report}
+use Rattle.rp_steps.specs.Steps.{steps}
+use Rattle.rp_steps.specs.Writes.{writes}
+use Rattle.rp_steps.specs.declared.step.Step.{Step}
+use Rattle.rp_apply_command.specs.Applies.{Applies, AppliesBehind, AppliesOpened, AppliesPlanned, CarriesOut, EndsHere, IsCommitRefusal, Opens, Outcome, PlanFits, Tells, applied_report}
+use Rattle.rp_apply_command.specs.Ends.{AreRead, Ends, IsBefore, IsBehind, IsBetween, LeavesAll, TellsUnchanged}
 use Rattle.rp_apply_command.specs.Ends.Ends.{before, behind, broken, between}
-use Rattle.rp_apply_command.proofs.Again.{made_no_more}
+use Rattle.rp_apply_command.proofs.Again.{made_no_more, none_to_do}
 use Rattle.rp_apply_command.proofs.Goals.{IsRefused, none_planned, only_read, settled_ok}
 use Rattle.rp_apply_command.proofs.Moments.{carries_all, carries_some, leaves_all}
 use Rattle.rp_apply_command.proofs.Runs.{made_none, made_sync}
@@ -39,6 +45,18 @@ pub is_commit : (planned : Planned) (refusal : Refusal) → IsCommitRefusal plan
 is_commit planned refusal (inl failed) = inl (ap (λ (r : Refusal). r.status) failed)
 is_commit planned refusal (inr (inl failed)) = inr (inl (ap (λ (r : Refusal). r.status) failed))
 is_commit planned refusal (inr (inr changed)) = inr (inr (ap (λ (r : Refusal). r.status) changed.2))
+
+-- no status of a refusal is that of a run that is done
+pub not_before : {P : Type 0} (n : ℕ) → IsBefore n → n ≡ 0 → P
+not_before n (inl a) b = absurd (omega (arith, a, b))
+not_before n (inr (inl a)) b = absurd (omega (arith, a, b))
+not_before n (inr (inr (inl a))) b = absurd (omega (arith, a, b))
+not_before n (inr (inr (inr a))) b = absurd (omega (arith, a, b))
+
+pub not_between : {P : Type 0} (n : ℕ) → IsBetween n → n ≡ 0 → P
+not_between n (inl a) b = absurd (omega (arith, a, b))
+not_between n (inr (inl a)) b = absurd (omega (arith, a, b))
+not_between n (inr (inr a)) b = absurd (omega (arith, a, b))
 
 pub finished : (out after : Output) (text : List ℕ) (status : ℕ) → Finishes out after text status → IsBehind status
 finished out after text status (inl done) = inl done.0
@@ -130,33 +148,55 @@ ends_so request json dirs folders read disk later sources drained out after stat
     by_definitions request json dirs folders disk later sources out after status of_sector whole most read drained applies.0 applies.1.0
     applies.1.1 applies.1.2
 
--- on an idle image, at every status, no call was made but the sync
-pub ends_idle : (request : Request) (json : Bool) (dirs : List (List ℕ)) (folders read : Store Tree) (disk later : Device)
-    (sources drained : Store (List Stored)) (out after : Output) (status : ℕ)
-    → IsSector request.sector → request.size % 4096 ≡ 0 → request.size ≤ 2 ^ 44
-    → Applies request json dirs folders read disk later sources drained out after status
-    → (bytes : List ℕ) (tree : Tree) (definitions : Definitions) → disk.first ≡ Some bytes → folders.told ≡ Some tree
-    → definitions_in request.arch tree dirs ≡ Ok definitions
-    → IsIdle request.sector (held (history_of bytes disk.calls)) definitions.list request.seed
-    → request.size ≤ length (held (history_of bytes disk.calls)) → MadeFirst disk.calls (Sync ∷ []) later.calls
-ends_idle request json dirs folders read disk later sources drained out after status of_sector whole most applies bytes tree definitions
-    tells told are idle long =
-    by_end (ends_so request json dirs folders read disk later sources drained out after status of_sector whole most applies) where
-      same_ok : (a b : Definitions) → ◌≡◌ {A = Result Definitions Refusal} (Ok a) (Ok b) → a ≡ b
-      same_ok a b e = cc
+-- on an idle image
+module _ (request : Request) (json : Bool) (dirs : List (List ℕ)) (folders read : Store Tree) (disk later : Device)
+    (sources drained : Store (List Stored)) (out after : Output) (status : ℕ) (of_sector : IsSector request.sector)
+    (whole : request.size % 4096 ≡ 0) (most : request.size ≤ 2 ^ 44)
+    (applies : Applies request json dirs folders read disk later sources drained out after status) (bytes : List ℕ) (tree : Tree)
+    (definitions : Definitions) (tells : disk.first ≡ Some bytes) (told : folders.told ≡ Some tree)
+    (are : definitions_in request.arch tree dirs ≡ Ok definitions)
+    (idle : IsIdle request.sector (held (history_of bytes disk.calls)) definitions.list request.seed)
+    (long : request.size ≤ length (held (history_of bytes disk.calls))) where
+  same_ok : (a b : Definitions) → ◌≡◌ {A = Result Definitions Refusal} (Ok a) (Ok b) → a ≡ b
+  same_ok a b e = cc
 
-      same : (others : Definitions) → AreRead request dirs folders others
-          → IsIdle request.sector (held (history_of bytes disk.calls)) others.list request.seed
-      same others read_so =
-          let found : definitions_in request.arch tree dirs ≡ Ok others =
-          subst (λ o. IfSome o (λ tree. definitions_in request.arch tree dirs ≡ Ok others)) told read_so.told in
-          subst (λ (d : Definitions). IsIdle request.sector (held (history_of bytes disk.calls)) d.list request.seed)
-          (same_ok definitions others (sym are ∙ found)) idle
+  same_read : (others : Definitions) → AreRead request dirs folders others → definitions ≡ others
+  same_read others read_so =
+      let found : definitions_in request.arch tree dirs ≡ Ok others =
+      subst (λ o. IfSome o (λ tree. definitions_in request.arch tree dirs ≡ Ok others)) told read_so.told in
+      same_ok definitions others (sym are ∙ found)
 
-      by_end : Ends request json dirs folders disk later sources out after status → MadeFirst disk.calls (Sync ∷ []) later.calls
-      by_end (before is leaves) = leaves.made
-      by_end (broken is leaves) = leaves.made
-      by_end (behind is others planned calls read_so all finishes) =
-          made_no_more request others.list disk later sources planned calls bytes all.some tells (same others read_so) long
-      by_end (between is others planned calls read_so some refusal cause refuses) =
-          made_no_more request others.list disk later sources planned calls bytes some tells (same others read_so) long
+  idle_for : (others : Definitions) → AreRead request dirs folders others
+      → IsIdle request.sector (held (history_of bytes disk.calls)) others.list request.seed
+  idle_for others read_so = subst (λ (d : Definitions). IsIdle request.sector (held (history_of bytes disk.calls)) d.list request.seed)
+      (same_read others read_so) idle
+
+  -- at every status no call was made but the sync
+  pub ends_idle : MadeFirst disk.calls (Sync ∷ []) later.calls
+  ends_idle = by_end (ends_so request json dirs folders read disk later sources drained out after status of_sector whole most applies) where
+    by_end : Ends request json dirs folders disk later sources out after status → MadeFirst disk.calls (Sync ∷ []) later.calls
+    by_end (before is leaves) = leaves.made
+    by_end (broken is leaves) = leaves.made
+    by_end (behind is others planned calls read_so all finishes) =
+        made_no_more request others.list disk later sources planned calls bytes all.some tells (idle_for others read_so) long
+    by_end (between is others planned calls read_so some refusal cause refuses) =
+        made_no_more request others.list disk later sources planned calls bytes some tells (idle_for others read_so) long
+
+  -- where it is done, it tells no step and no change
+  pub tells_idle : status ≡ exit.done → TellsUnchanged json definitions out after
+  tells_idle done = by_end (ends_so request json dirs folders read disk later sources drained out after status of_sector whole most applies) where
+    by_end : Ends request json dirs folders disk later sources out after status → TellsUnchanged json definitions out after
+    by_end (before is leaves) = not_before status is done
+    by_end (broken is leaves) = not_between status is done
+    by_end (between is others planned calls read_so some refusal cause refuses) = not_between status is done
+    by_end (behind is others planned calls read_so all finishes) = by_text finishes where
+      none : (steps planned.plan planned.seen ≡ []) × All (λ (note : Note). note.change ≡ Same) planned.plan.notes
+      none = none_to_do request others.list disk later sources planned calls bytes all.some tells (idle_for others read_so) long
+
+      text : applied_report json others planned ≡ plan_report json planned.plan definitions 0 0 true
+      text = ap (λ (ss : List Step). plan_report json planned.plan others (length ss) (writes ss) true) none.0
+          ∙ ap (λ (d : Definitions). plan_report json planned.plan d 0 0 true) (sym (same_read others read_so))
+
+      by_text : Finishes out after (applied_report json others planned) status → TellsUnchanged json definitions out after
+      by_text (inl (e, printed)) = (planned.plan, none.1, subst (PrintsAll out after) text printed)
+      by_text (inr (e, printed)) = absurd (omega (arith, e, done))

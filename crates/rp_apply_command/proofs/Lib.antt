@@ -9,3 +9,5 @@ pub mod Carried
 pub mod Rooted
 pub mod Allowed
 pub mod Opened
+pub mod Hashed
+pub mod Complete

@@ -1,7 +1,6 @@
 -- What a run leaves, by what was made on the disk.
-use Rattle.std.proofs.Common.{◌≡◌, ◌∙◌, ℕ, ◌%◌, ◌^◌, ◌≤◌, List, [], ◌∷◌, ◌++◌, Option, Some, None, Result, Ok, Err, refl, sym, ap, subst}
+use Rattle.std.proofs.Common.{◌≡◌, ◌∙◌, ℕ, ◌%◌, ◌^◌, ◌≤◌, List, [], ◌∷◌, ◌++◌, Option, Some, None, Ok, refl, sym, ap, subst}
 use Rattle.std.specs.Prelude.{IfSome, IfErr}
-use Rattle.rp_apply.specs.Commits.{HavePlannedRoots}
 use Rattle.rp_apply.specs.Sourced.{paths_of}
 use Rattle.rp_step.specs.Sourced.{sources_in}
 use Rattle.rp_base.specs.Geometry.{IsSector}
@@ -10,7 +9,7 @@ use Rattle.rp_defs.specs.WellFormed.{IsWellFormed}
 use Rattle.rp_defs.specs.declared.definition.Definition.{Definition}
 use Rattle.rp_defs.specs.declared.definition.Definitions.{Definitions}
 use Rattle.rp_disk.specs.History.{History, held}
-use Rattle.rp_disk.specs.Made.{Made, dones, history_of, history_told}
+use Rattle.rp_disk.specs.Made.{dones, history_of, history_told}
 use Rattle.rp_disk.specs.Runs.{AtAnyMomentBehindSync, EndsSettled, MadeFirst}
 use Rattle.rp_disk.specs.declared.call.Call.{Call}
 use Rattle.rp_disk.specs.declared.call.Call.TheVariants.{Sync}
@@ -19,8 +18,7 @@ use Rattle.rp_headline.proofs.Public.{ends_any, ends_with, is_left, is_left_any,
 use Rattle.rp_headline.specs.Left.{HasGoal, IsDoneWith, IsUntouched}
 use Rattle.rp_idle.proofs.Public.{plan_for}
 use Rattle.rp_io.specs.declared.stored.Stored.{Stored}
-use Rattle.rp_outcome.specs.Device.{Device, history}
-use Rattle.rp_outcome.specs.Refusals.{Refusal}
+use Rattle.rp_outcome.specs.Device.{Device}
 use Rattle.rp_outcome.specs.Statuses as exit
 use Rattle.rp_outcome.specs.Store.{Store}
 use Rattle.rp_planned.specs.Planning.{PlansImage, planned_of, target_of}
@@ -29,8 +27,7 @@ use Rattle.rp_planned.specs.declared.request.Request.{Request}
 use Rattle.rp_steps.specs.Calls.{calls as calls_for}
 use Rattle.rp_steps.specs.Contents.{contents}
 use Rattle.rp_stops.specs.Rows.{grown}
-use Rattle.rp_apply_command.specs.Applies.{CarriesOut, Opens, Outcome, PlanFits}
-use Rattle.rp_apply.specs.Called.{AreCallsFor}
+use Rattle.rp_apply_command.specs.Applies.{CarriesOut, Outcome, PlanFits}
 use Rattle.rp_apply_command.specs.Ends.{AtEachMoment, AtTheEnd, CarriesAll, CarriesSome, Given, IsGoalOf, LeavesAll, StopsExactly, StopsSafely}
 use Rattle.rp_apply_command.proofs.Called.{are_calls_for}
 use Rattle.rp_apply_command.proofs.Goals.{is_goal, is_told, only_read, told_same}
@@ -83,8 +80,7 @@ module _ (request : Request) (definitions : Definitions) (disk opened read later
 
   abbrev Exact : List Stored → Type 0
   Exact files = (calls ≡ calls_for planned.plan planned.seen (sources_in files (paths_of definitions.list)))
-      × (HavePlannedRoots planned.plan (sources_in files (paths_of definitions.list))
-      → IfErr answer (λ refusal. refusal.status ≡ exit.changed → ⊥))
+      × IfErr answer (λ refusal. refusal.status ≡ exit.changed → ⊥)
 
   exact_of : (bytes : List ℕ) → disk.first ≡ Some bytes → (files : List Stored) → sources.told ≡ Some files
       → calls ≡ calls_for planned.plan planned.seen (Given list files)

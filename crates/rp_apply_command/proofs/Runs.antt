@@ -1,10 +1,9 @@
 -- Runs behind a sync.
 use Rattle.std.proofs.Common.{◌≡◌, ◌∙◌, ℕ, List, [], ◌∷◌, ◌++◌, refl, sym, ap, append_assoc, append-nil}
 use Rattle.rp_disk.specs.Blocks.{flat}
-use Rattle.rp_disk.specs.Calls.{all_done}
 use Rattle.rp_disk.specs.History.{held}
 use Rattle.rp_disk.specs.Made.{Made, Done, dones, history_of}
-use Rattle.rp_disk.specs.Runs.{AreFirst, MadeFirst}
+use Rattle.rp_disk.specs.Runs.{MadeFirst}
 use Rattle.rp_disk.specs.declared.call.Call.{Call}
 use Rattle.rp_disk.specs.declared.call.Call.TheVariants.{Sync}
 use Rattle.rp_disk.proofs.Runs.{history_of-dones, held-all_did}

@@ -1,19 +1,18 @@
 -- What is refused before anything is carried out, is refused as by the command that only plans.
-use Rattle.std.proofs.Common.{◌≡◌, ◌⊎◌, ◌∙◌, ℕ, ◌≤◌, List, [], ◌∷◌, ◌++◌, Bool, Option, Some, None, Result, Ok, Err, refl, sym, ap, subst, inl, inr, arith}
+use Rattle.std.proofs.Common.{◌≡◌, ◌∙◌, ℕ, List, [], ◌∷◌, ◌++◌, Bool, Option, Some, None, Result, Ok, Err, sym, ap, subst, inl, inr, arith}
 use Rattle.std.specs.Prelude.{IfErr, IfSome, IsErrAnd}
 use Rattle.rp_defs.specs.declared.definition.Definitions.{Definitions}
 use Rattle.rp_disk.specs.History.{held}
-use Rattle.rp_disk.specs.Made.{dones, history_of, history_told}
+use Rattle.rp_disk.specs.Made.{dones, history_told}
 use Rattle.rp_disk.specs.declared.call.Call.{Call}
 use Rattle.rp_disk.specs.declared.call.Call.TheVariants.{Sync}
 use Rattle.rp_io.specs.Files.{Tree}
 use Rattle.rp_io.specs.declared.stored.Stored.{Stored}
-use Rattle.rp_outcome.specs.Device.{Device, history}
-use Rattle.rp_outcome.specs.Output.{Output, Finishes, Prints, Refuses}
+use Rattle.rp_outcome.specs.Device.{Device}
+use Rattle.rp_outcome.specs.Output.{Output, Prints}
 use Rattle.rp_outcome.specs.Refusals.{Refusal, line_of}
 use Rattle.rp_outcome.specs.Store.{Store}
-use Rattle.rp_plan_command.specs.Plans.{Plans}
-use Rattle.rp_plan_command.specs.Statuses.{ByStatus, IsRefused, WhereTold, told_plan}
+use Rattle.rp_plan_command.specs.Statuses.{IsRefused, WhereTold, told_plan}
 use Rattle.rp_plan_command.proofs.Statuses.{by_status}
 use Rattle.rp_planned.specs.Planning.{PlansImage}
 use Rattle.rp_planned.specs.declared.planned.Planned.{Planned}

@@ -2,14 +2,12 @@
 -- memory is taken, the plan is carried out, and it is told.
 use Rattle.std.specs.Prelude.{ℕ, ◌≡◌, ◌≢◌, ◌⊎◌, List, [], ◌∷◌, Any, Bool, true, length, Result, Ok, Err, IfOk, IfSome, IfErr}
 use Rattle.rp_apply.specs.Called.{AreCallsFor}
-use Rattle.rp_apply.specs.Commits.{HavePlannedRoots}
 use Rattle.rp_apply.specs.Sourced.{paths_of}
 use Rattle.rp_step.specs.Sourced.{sources_in}
 use Rattle.rp_base.specs.Plan.{Noted, noted_of}
 use Rattle.rp_base.specs.Table.{TableFits}
 use Rattle.rp_base.specs.declared.guid.Guid.{Guid}
 use Rattle.rp_base.specs.declared.plan.Role.TheVariants.{Hash}
-use Rattle.rp_defs.specs.declared.definition.Definition.{Definition}
 use Rattle.rp_defs.specs.declared.definition.Definitions.{Definitions}
 use Rattle.rp_disk.specs.Runs.{Runs}
 use Rattle.rp_disk.specs.declared.call.Call.{Call}
@@ -67,7 +65,7 @@ pub record HasCommitCauses (disk later : Device) (sources drained : Store (List 
   pub of_sources : HasStageCause source_refusal sources.faults drained.faults answer
 
 -- these calls carry out the plan, whatever bytes sources that don't tell have; where disk and sources tell, they are those of its
--- steps, and no source has changed where each pair is planned with the root hash of its source. They were all made, or the first of them
+-- steps, and no source has changed. They were all made, or the first of them
 pub record CarriesOut (definitions : Definitions) (planned : Planned) (disk later : Device) (sources drained : Store (List Stored))
     (calls : List Call) (answer : Outcome) : Type 0 where
   pub first : later.first ≡ disk.first
@@ -75,7 +73,7 @@ pub record CarriesOut (definitions : Definitions) (planned : Planned) (disk late
   pub are : AreCallsFor planned.seen planned.plan calls
   pub exact : IfSome (history disk) (λ h. IfSome sources.told (λ files.
       (calls ≡ calls_for planned.plan planned.seen (sources_in files (paths_of definitions.list)))
-      × (HavePlannedRoots planned.plan (sources_in files (paths_of definitions.list)) → IfErr answer (λ refusal. refusal.status ≢ exit.changed))))
+      × IfErr answer (λ refusal. refusal.status ≢ exit.changed)))
   pub ran : Runs disk.calls calls later.calls answer
   pub strays : IfSome (history disk) (λ h. later.strays ≡ disk.strays)
   pub refusal : IfErr answer (IsCommitRefusal planned)

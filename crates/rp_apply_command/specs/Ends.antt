@@ -1,9 +1,9 @@
 -- What a run of `apply` made of an image, by its exit status, and what a stop at any moment might have left.
-use Rattle.std.specs.Prelude.{ℕ, ◌≡◌, ◌⊎◌, ◌++◌, List, [], ◌∷◌, Bool, IfSome, Ok}
+use Rattle.std.specs.Prelude.{ℕ, ◌≡◌, ◌⊎◌, ◌++◌, List, [], ◌∷◌, All, Bool, true, IfSome, Ok}
 use Rattle.rp_apply.specs.Sourced.{paths_of}
 use Rattle.rp_step.specs.Sourced.{sources_in}
+use Rattle.rp_base.specs.declared.plan.Change.TheVariants.{Same}
 use Rattle.rp_base.specs.declared.plan.Plan.{Plan}
-use Rattle.rp_base.specs.declared.seen.Seen.{Seen}
 use Rattle.rp_defs.specs.WellFormed.{IsWellFormed}
 use Rattle.rp_defs.specs.declared.definition.Definition.{Definition}
 use Rattle.rp_defs.specs.declared.definition.Definitions.{Definitions}
@@ -17,7 +17,7 @@ use Rattle.rp_idle.specs.Idle.{IsPlanned}
 use Rattle.rp_io.specs.Files.{Tree}
 use Rattle.rp_io.specs.declared.stored.Stored.{Stored}
 use Rattle.rp_outcome.specs.Device.{Device}
-use Rattle.rp_outcome.specs.Output.{Output, Finishes, Refuses}
+use Rattle.rp_outcome.specs.Output.{Output, Finishes, PrintsAll, Refuses}
 use Rattle.rp_outcome.specs.Refusals.{Refusal}
 use Rattle.rp_outcome.specs.Statuses as exit
 use Rattle.rp_outcome.specs.Store.{Store}
@@ -25,6 +25,7 @@ use Rattle.rp_planned.specs.Planning.{planned_of, target_of}
 use Rattle.rp_planned.specs.declared.planned.Planned.{Planned}
 use Rattle.rp_planned.specs.declared.request.Request.{Request}
 use Rattle.rp_reading.specs.Reading.{definitions_in}
+use Rattle.rp_report.specs.Reports.{plan_report}
 use Rattle.rp_sizes.specs.declared.need.Fact.{Fact}
 use Rattle.rp_steps.specs.Calls.{calls as calls_for}
 use Rattle.rp_steps.specs.Contents.{Sources, contents}
@@ -126,3 +127,8 @@ pub data Ends (request : Request) (json : Bool) (dirs : List (List ℕ)) (folder
   between : IsBetween status → (definitions : Definitions) (planned : Planned) (calls : List Call) → AreRead request dirs folders definitions
       → CarriesSome request definitions.list disk later sources planned calls → (refusal : Refusal) → IsCommitRefusal planned refusal
       → Refuses out after refusal status → Ends request json dirs folders disk later sources out after status
+
+-- what was printed of a plan that changes nothing: no steps, no writes, and each row the same
+abbrev pub TellsUnchanged : Bool → Definitions → Output → Output → Type 0
+TellsUnchanged json definitions out after =
+    (plan : Plan) × All (λ note. note.change ≡ Same) plan.notes × PrintsAll out after (plan_report json plan definitions 0 0 true)

@@ -1,3 +1,4 @@
 pub mod Applies
 pub mod Carrying
+pub mod Complete
 pub mod Ends

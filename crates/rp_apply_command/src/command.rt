@@ -9,7 +9,7 @@ ghost use Rattle.rp_outcome.specs.Output.{output};
 ghost use Rattle.rp_outcome.specs.Store.{store};
 ghost use Rattle.rp_planned.specs.declared.planned.Planned.{Planned as Aim};
 ghost use Rattle.rp_apply_command.specs.Applies.{Applies, AppliesOpened, AppliesPlanned, Commits, PlanFits, applied_report};
-ghost use Rattle.rp_apply_command.specs.Carrying.{CanPrepare, HasSeenLength};
+ghost use Rattle.rp_apply_command.specs.Carrying.{CanPrepare, HasSeenLength, HasToldRoots};
 
 use rp_apply::{ApplyFault, Ready, commit, plan_fits, prepare};
 use rp_base::{Failed, Memory, Text};
@@ -94,6 +94,8 @@ fn apply_planned<D: Disk, S: Sources, K: Sink>(
 ) -> u8
     requires can { CanPrepare definitions.now.list planned.now }
     requires len { HasSeenLength planned.now (device D.first D.calls D.faults D.strays disk.old) }
+    requires roots { HasToldRoots definitions.now.list planned.now
+        (device D.first D.calls D.faults D.strays disk.old) (store S.told S.faults S.strays sources.old) }
     ensures fits { PlanFits planned.now }
     ensures applies { (calls : List Call) × AppliesPlanned json definitions.now
         (device D.first D.calls D.faults D.strays disk.old) (device D.first D.calls D.faults D.strays disk.new)
@@ -138,6 +140,8 @@ fn carried_out<D: Disk, S: Sources, K: Sink>(
     ensures { (json : Bool) (definitions : Defined) (planned : Aim) → IsReadyFor planned.plan planned.seen definitions.list ready
         → text.now ≡ applied_report json definitions planned
         → HasSeenLength planned (device D.first D.calls D.faults D.strays disk.old)
+        → HasToldRoots definitions.list planned
+        (device D.first D.calls D.faults D.strays disk.old) (store S.told S.faults S.strays sources.old)
         → (calls : List Call) × Commits json definitions planned
         (device D.first D.calls D.faults D.strays disk.old) (device D.first D.calls D.faults D.strays disk.new)
         (store S.told S.faults S.strays sources.old) (store S.told S.faults S.strays sources.new)

@@ -3,6 +3,7 @@ use Rattle.rp_outcome.specs.Device.{device}
 use Rattle.rp_outcome.specs.Store.{store}
 use Rattle.rp_planned.specs.Planning.{unplanned_refusal}
 use Rattle.rp_apply_command.proofs.Allowed.{can_prepare, seen_length}
+use Rattle.rp_apply_command.proofs.Hashed.{told_roots}
 use Rattle.rp_apply_command.proofs.command.apply_opened.Goals as goal
 
 pub apply_planned-requires-clause-can : goal.apply_planned-requires-clause-can
@@ -22,6 +23,15 @@ apply_planned-requires-clause-len g c =
     (store g.S.Sources.told g.S.Sources.faults g.S.Sources.strays c.args.sources.now)
     (store g.S.Sources.told g.S.Sources.faults g.S.Sources.strays c.plan_image.new.sources)
     c.in-Ok.planned c.requires.sector (rw c.as_slice-list.ensures at c.in-Ok.ensures.plans)
+
+pub apply_planned-requires-clause-roots : goal.apply_planned-requires-clause-roots
+apply_planned-requires-clause-roots g c =
+    told_roots c.args.request c.args.definitions.now.list
+    (device g.D.Disk.first g.D.Disk.calls g.D.Disk.faults g.D.Disk.strays c.args.disk.now)
+    (device g.D.Disk.first g.D.Disk.calls g.D.Disk.faults g.D.Disk.strays c.plan_image.new.disk)
+    (store g.S.Sources.told g.S.Sources.faults g.S.Sources.strays c.args.sources.now)
+    (store g.S.Sources.told g.S.Sources.faults g.S.Sources.strays c.plan_image.new.sources)
+    c.in-Ok.planned c.requires.sector c.requires.whole c.requires.most c.requires.list (rw c.as_slice-list.ensures at c.in-Ok.ensures.plans)
 
 pub returns-in-Err : goal.returns-in-Err
 returns-in-Err g c = (

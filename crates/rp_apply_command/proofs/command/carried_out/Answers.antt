@@ -7,13 +7,13 @@ use Rattle.rp_apply_command.proofs.Carried.{carries, told_as, told_done}
 use Rattle.rp_apply_command.proofs.command.carried_out.Goals as goal
 
 pub returns-in-Ok : goal.returns-in-Ok
-returns-in-Ok g c = λ json definitions planned is text long.
+returns-in-Ok g c = λ json definitions planned is text long roots.
     let old = device g.D.Disk.first g.D.Disk.calls g.D.Disk.faults g.D.Disk.strays c.args.disk.now in
     let new = device g.D.Disk.first g.D.Disk.calls g.D.Disk.faults g.D.Disk.strays c.commit.new.disk in
     let from = store g.S.Sources.told g.S.Sources.faults g.S.Sources.strays c.args.sources.now in
     let to = store g.S.Sources.told g.S.Sources.faults g.S.Sources.strays c.commit.new.sources in
     let e = c.commit.ensures in
-    let r = carries definitions planned old new from to c.args.ready is long c.commit.result
+    let r = carries definitions planned old new from to c.args.ready is long roots c.commit.result
     e.first e.told e.made e.disk_cause e.source_cause e.disk_strays in (
       r.0,
       (
@@ -25,13 +25,13 @@ returns-in-Ok g c = λ json definitions planned is text long.
     )
 
 pub returns-in-Err-DiskFault : goal.returns-in-Err-DiskFault
-returns-in-Err-DiskFault g c = λ json definitions planned is text long.
+returns-in-Err-DiskFault g c = λ json definitions planned is text long roots.
     let old = device g.D.Disk.first g.D.Disk.calls g.D.Disk.faults g.D.Disk.strays c.args.disk.now in
     let new = device g.D.Disk.first g.D.Disk.calls g.D.Disk.faults g.D.Disk.strays c.commit.new.disk in
     let from = store g.S.Sources.told g.S.Sources.faults g.S.Sources.strays c.args.sources.now in
     let to = store g.S.Sources.told g.S.Sources.faults g.S.Sources.strays c.commit.new.sources in
     let e = c.commit.ensures in
-    let r = carries definitions planned old new from to c.args.ready is long c.commit.result
+    let r = carries definitions planned old new from to c.args.ready is long roots c.commit.result
     e.first e.told e.made e.disk_cause e.source_cause e.disk_strays in (
       r.0,
       (
@@ -43,13 +43,13 @@ returns-in-Err-DiskFault g c = λ json definitions planned is text long.
     )
 
 pub returns-in-Err-SourceFault : goal.returns-in-Err-SourceFault
-returns-in-Err-SourceFault g c = λ json definitions planned is text long.
+returns-in-Err-SourceFault g c = λ json definitions planned is text long roots.
     let old = device g.D.Disk.first g.D.Disk.calls g.D.Disk.faults g.D.Disk.strays c.args.disk.now in
     let new = device g.D.Disk.first g.D.Disk.calls g.D.Disk.faults g.D.Disk.strays c.commit.new.disk in
     let from = store g.S.Sources.told g.S.Sources.faults g.S.Sources.strays c.args.sources.now in
     let to = store g.S.Sources.told g.S.Sources.faults g.S.Sources.strays c.commit.new.sources in
     let e = c.commit.ensures in
-    let r = carries definitions planned old new from to c.args.ready is long c.commit.result
+    let r = carries definitions planned old new from to c.args.ready is long roots c.commit.result
     e.first e.told e.made e.disk_cause e.source_cause e.disk_strays in (
       r.0,
       (
@@ -62,13 +62,13 @@ returns-in-Err-SourceFault g c = λ json definitions planned is text long.
     )
 
 pub returns-in-Err-SourceChanged : goal.returns-in-Err-SourceChanged
-returns-in-Err-SourceChanged g c = λ json definitions planned is text long.
+returns-in-Err-SourceChanged g c = λ json definitions planned is text long roots.
     let old = device g.D.Disk.first g.D.Disk.calls g.D.Disk.faults g.D.Disk.strays c.args.disk.now in
     let new = device g.D.Disk.first g.D.Disk.calls g.D.Disk.faults g.D.Disk.strays c.commit.new.disk in
     let from = store g.S.Sources.told g.S.Sources.faults g.S.Sources.strays c.args.sources.now in
     let to = store g.S.Sources.told g.S.Sources.faults g.S.Sources.strays c.commit.new.sources in
     let e = c.commit.ensures in
-    let r = carries definitions planned old new from to c.args.ready is long c.commit.result
+    let r = carries definitions planned old new from to c.args.ready is long roots c.commit.result
     e.first e.told e.made e.disk_cause e.source_cause e.disk_strays in (
       r.0,
       (

@@ -1,0 +1,4 @@
+pub mod Known
+pub mod Over
+pub mod Planned
+pub mod Public
