@@ -3,7 +3,7 @@ use Rattle.std.proofs.Common.{ℕ, ◌≡◌, ◌⊎◌, ◌≤◌, List, [], Op
 use Rattle.std.specs.Prelude.{IsErrAnd}
 use Rattle.rp_base.specs.Faults.{Rose}
 use Rattle.rp_base.specs.declared.guid.Guid.{Guid}
-use Rattle.rp_check_command.specs.Checks.{Differs, check_request}
+use Rattle.rp_check_command.specs.Checks.{check_request}
 use Rattle.rp_check_command.specs.Reports.{check_report, difference_line, same_line}
 use Rattle.rp_check_command.specs.Statuses.{CheckByStatus, told_difference}
 use Rattle.rp_defs.specs.declared.definition.Definitions.{Definitions}
@@ -13,7 +13,7 @@ use Rattle.rp_disk.specs.History.{History, held}
 use Rattle.rp_io.specs.Files.{Tree}
 use Rattle.rp_io.specs.declared.stored.Stored.{Stored}
 use Rattle.rp_outcome.specs.Device.{Device, IsOnlyRead, history}
-use Rattle.rp_outcome.specs.Output.{Output, Finishes, Prints, PrintsPart, Refuses}
+use Rattle.rp_outcome.specs.Output.{Output, Differs, Finishes, Prints, PrintsPart, Refuses}
 use Rattle.rp_outcome.specs.Refusals.{Refusal, disk_refusal, line_of, memory_refusal}
 use Rattle.rp_outcome.specs.Store.{Store}
 use Rattle.rp_plan_command.proofs.Ended.{not_refused}

@@ -10,9 +10,8 @@ use Rattle.rp_gpt.specs.declared.table_fault.Empty.TheVariants.{Refuse}
 use Rattle.rp_io.specs.Files.{Tree}
 use Rattle.rp_io.specs.declared.stored.Stored.{Stored}
 use Rattle.rp_outcome.specs.Device.{Device, IsOnlyRead, history}
-use Rattle.rp_outcome.specs.Output.{Output, Finishes, PrintsAll, PrintsPart, Refuses}
+use Rattle.rp_outcome.specs.Output.{Output, Differs, Finishes, Refuses}
 use Rattle.rp_outcome.specs.Refusals.{Refusal, disk_refusal, memory_refusal}
-use Rattle.rp_outcome.specs.Statuses as exit
 use Rattle.rp_outcome.specs.Store.{Store}
 use Rattle.rp_planned.specs.Planning.{PlansImage}
 use Rattle.rp_planned.specs.declared.planned.Planned.{Planned}
@@ -20,10 +19,6 @@ use Rattle.rp_planned.specs.declared.request.Request.{Request}
 use Rattle.rp_reading.specs.Reading.{ReadsDefinitions}
 use Rattle.rp_reading.specs.Stages.{HasStageCause, Settles}
 use Rattle.rp_types.specs.declared.arch.Arch.{Arch}
-
--- the exit status where a difference was told
-abbrev pub differs : ℕ
-differs = 1
 
 -- what is planned for: an image that shows a table, and keeps its length
 abbrev pub check_request : Guid → Arch → ℕ → Request
@@ -36,10 +31,6 @@ pub record Finds (arch : Arch) (planned : Planned) (before now : Device) (answer
   pub settled : IfSome (history before) (λ h. Settles disk_refusal (Ok (difference (held h) arch planned.seen planned.plan)) answer)
   pub refusal : IfErr answer (λ refusal. (refusal ≡ disk_refusal) ⊎ (refusal ≡ memory_refusal))
   pub cause : HasStageCause disk_refusal before.faults now.faults answer
-
--- a command that tells a difference ends with its line: all of it, or a first part where the sink failed
-abbrev pub Differs : Output → Output → List ℕ → ℕ → Type 0
-Differs before now line status = ((status ≡ differs) × PrintsAll before now line) ⊎ ((status ≡ exit.sink) × PrintsPart before now line)
 
 -- the answer is told: that nothing differs, the difference, or the refusal
 abbrev pub Tells : Output → Output → ℕ → Result (Option Difference) Refusal → Type 0

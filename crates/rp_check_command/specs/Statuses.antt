@@ -1,7 +1,7 @@
 -- What is known of `check` at each exit status.
 use Rattle.std.specs.Prelude.{ℕ, ◌≡◌, ◌⊎◌, List, [], Option, Some, None, IsErrAnd, Result, Ok}
 use Rattle.rp_base.specs.declared.guid.Guid.{Guid}
-use Rattle.rp_check_command.specs.Checks.{check_request, differs}
+use Rattle.rp_check_command.specs.Checks.{check_request}
 use Rattle.rp_check_command.specs.Reports.{check_report, difference_line, same_line}
 use Rattle.rp_difference.specs.Difference.{difference}
 use Rattle.rp_difference.specs.declared.difference.Difference.{Difference}
@@ -33,13 +33,13 @@ pub record CheckByStatus (seed : Guid) (arch : Arch) (sector : ℕ) (dirs : List
   pub only_read : IsOnlyRead disk later
   pub causes : HasCauses disk later out after status
   pub files : HasFileCauses folders read sources drained out after status
-  pub one_of : IsRefused status ⊎ (status ≡ exit.done) ⊎ (status ≡ differs) ⊎ (status ≡ exit.disk) ⊎ (status ≡ exit.files) ⊎ (status ≡ exit.sink)
+  pub one_of : IsRefused status ⊎ (status ≡ exit.done) ⊎ (status ≡ exit.differs) ⊎ (status ≡ exit.disk) ⊎ (status ≡ exit.files) ⊎ (status ≡ exit.sink)
       ⊎ (status ≡ exit.memory)
   pub same : status ≡ exit.done → WhereTold folders disk sources (λ tree image files.
       told_difference seed arch sector dirs tree image files ≡ Ok None) × PrintsAll out after same_line
-  pub other : status ≡ differs → (found : Difference) × WhereTold folders disk sources (λ tree image files.
+  pub other : status ≡ exit.differs → (found : Difference) × WhereTold folders disk sources (λ tree image files.
       told_difference seed arch sector dirs tree image files ≡ Ok (Some found)) × PrintsAll out after (difference_line found)
-  pub kept : status ≡ differs → (read.faults ≡ folders.faults) × (drained.faults ≡ sources.faults)
+  pub kept : status ≡ exit.differs → (read.faults ≡ folders.faults) × (drained.faults ≡ sources.faults)
   pub cut : status ≡ exit.sink → (found : Option Difference) × WhereTold folders disk sources (λ tree image files.
       told_difference seed arch sector dirs tree image files ≡ Ok found) × PrintsPart out after (check_report found)
   pub refused : IsRefused status → WhereTold folders disk sources (λ tree image files.

@@ -4,7 +4,8 @@
 mod command;
 mod law;
 mod printing;
+#[cfg(test)]
+mod tests;
 
 pub use command::check;
 pub use law::check_by_status;
-pub use printing::DIFFERS;
