@@ -3,7 +3,7 @@ ghost use Rattle.rp_apply_command.specs.Ends.{LeavesAll};
 ghost use Rattle.rp_base.specs.Geometry.{IsSector};
 ghost use Rattle.rp_cli.specs.Applied.{AppliesAsked, IsApplied, IsDone, IsRefusedBefore, IsSafeThroughout, WritesNothingIdle};
 ghost use Rattle.rp_cli.specs.Holds.{Holds};
-ghost use Rattle.rp_cli.specs.Asked.{AreAsBefore, AreUnasked, PlansAsked, request_of as request_of_line};
+ghost use Rattle.rp_cli.specs.Asked.{AreAsBefore, AreUnasked, ChecksAsked, PlansAsked, request_of as request_of_line};
 ghost use Rattle.rp_dissect_command.specs.Dissects.{Dissects};
 ghost use Rattle.rp_outcome.specs.Causes.{HasCauses};
 ghost use Rattle.rp_outcome.specs.Device.{IsOnlyRead, device};
@@ -18,6 +18,7 @@ ghost use Rattle.rp_words.specs.Values.{IsSize, paths_of};
 
 use rp_apply_command::apply;
 use rp_base::Memory;
+use rp_check_command::check;
 use rp_disk::Disk;
 use rp_dissect_command::dissect;
 use rp_io::{Folders, Sink, Sources};
@@ -33,10 +34,11 @@ use std::alloc::Global;
 /// the exit status. The words don't hold the program's name. The disk is the image; the word that names it is for the
 /// caller.
 ///
-/// Statuses: 0 done; 1 `compare` told a difference; 2 the words aren't canonical; 3 the definition files are no list of
+/// Statuses: 0 done; 1 `check` or `compare` told a difference; 2 the words aren't canonical; 3 the definition files are no list of
 /// definitions; 4 the image isn't accepted; 5 what the definitions ask for can't be had; 6 a text is no policy, or the policy
 /// denies the image; 7 the disk failed; 8 the folders or the sources failed; 9 the sink failed once all else was done; 10 out
-/// of memory; 11 a source has changed since it was planned. A status but 0, 1, 9 and 10 prints its line `error STATUS ..`, or of a denial `denied ..`.
+/// of memory; 11 a source has changed since it was planned. A status but 0, 1, 9 and 10 prints its line `error STATUS ..`, or of
+/// a denial `denied ..`.
 #[tactic(auto, using(crate::proofs::Promised::plan_only_read, crate::proofs::Promised::plan_causes, crate::proofs::Promised::plan_files, crate::proofs::Promised::plan_words, crate::proofs::Promised::show_files, crate::proofs::Promised::words_files, crate::proofs::Policies::dissect_only_read, crate::proofs::Policies::dissect_causes, crate::proofs::Policies::dissect_files, crate::proofs::Policies::dissect_words, crate::proofs::Policies::policy_causes, crate::proofs::Policies::policy_files, crate::proofs::Policies::policy_words, crate::proofs::Policies::compare_causes, crate::proofs::Policies::compare_files, crate::proofs::Policies::compare_words))]
 pub fn run<D: Disk, F: Folders, S: Sources, K: Sink>(
     alloc: Global,
@@ -72,6 +74,12 @@ pub fn run<D: Disk, F: Folders, S: Sources, K: Sink>(
         (device D.first D.calls D.faults D.strays disk.old) (device D.first D.calls D.faults D.strays disk.new)
         (store S.told S.faults S.strays sources.old) (store S.told S.faults S.strays sources.new)
         (output K.told K.faults out.old) (output K.told K.faults out.new) result) }
+    ensures check { IfOk (line_of (map string_bytes words.now)) (λ line. line.command ≡ Command.Check
+        → ChecksAsked line.seed line.arch line.sector (paths_of (text_in Opt.Definitions (map string_bytes words.now)))
+        (store F.told F.faults F.strays folders.old) (store F.told F.faults F.strays folders.new)
+        (device D.first D.calls D.faults D.strays disk.old) (device D.first D.calls D.faults D.strays disk.new)
+        (store S.told S.faults S.strays sources.old) (store S.told S.faults S.strays sources.new)
+        (output K.told K.faults out.old) (output K.told K.faults out.new) result) }
     ensures dissect { IfOk (line_of (map string_bytes words.now)) (λ line. line.command ≡ Command.Dissect
         → Dissects (text_in Opt.Policy (map string_bytes words.now)) line.arch line.sector line.json
         (device D.first D.calls D.faults D.strays disk.old) (device D.first D.calls D.faults D.strays disk.new)
@@ -98,17 +106,23 @@ pub fn run<D: Disk, F: Folders, S: Sources, K: Sink>(
     // partition keeps its place and bytes, new ones hold their contents.
     ensures applied { IfOk (line_of (map string_bytes words.now)) (λ line. line.command ≡ Command.Apply → IsDone result
         → IsApplied (request_of_line line) (paths_of (text_in Opt.Definitions (map string_bytes words.now)))
-        (store F.told F.faults F.strays folders.old) (device D.first D.calls D.faults D.strays disk.old) (device D.first D.calls D.faults D.strays disk.new) (store S.told S.faults S.strays sources.old)) }
+        (store F.told F.faults F.strays folders.old)
+        (device D.first D.calls D.faults D.strays disk.old) (device D.first D.calls D.faults D.strays disk.new)
+        (store S.told S.faults S.strays sources.old)) }
     // A second run writes nothing where none was dropped: such an image is idle.
     ensures second_run { IfOk (line_of (map string_bytes words.now)) (λ line. line.command ≡ Command.Apply
         → WritesNothingIdle (request_of_line line) (paths_of (text_in Opt.Definitions (map string_bytes words.now)))
-        (store F.told F.faults F.strays folders.old) (device D.first D.calls D.faults D.strays disk.old) (device D.first D.calls D.faults D.strays disk.new)) }
+        (store F.told F.faults F.strays folders.old)
+        (device D.first D.calls D.faults D.strays disk.old) (device D.first D.calls D.faults D.strays disk.new)) }
     // Stopped at any moment, the image shows the old table or the goal with all that.
     ensures any_moment { IfOk (line_of (map string_bytes words.now)) (λ line. line.command ≡ Command.Apply
         → IsSafeThroughout (request_of_line line) (paths_of (text_in Opt.Definitions (map string_bytes words.now)))
-        (store F.told F.faults F.strays folders.old) (device D.first D.calls D.faults D.strays disk.old) (device D.first D.calls D.faults D.strays disk.new) (store S.told S.faults S.strays sources.old)) }
+        (store F.told F.faults F.strays folders.old)
+        (device D.first D.calls D.faults D.strays disk.old) (device D.first D.calls D.faults D.strays disk.new)
+        (store S.told S.faults S.strays sources.old)) }
     // What is refused for definitions, image, demand or want of memory changes nothing.
-    ensures untouched { IfOk (line_of (map string_bytes words.now)) (λ line. line.command ≡ Command.Apply → IsRefusedBefore result → LeavesAll
+    ensures untouched { IfOk (line_of (map string_bytes words.now)) (λ line. line.command ≡ Command.Apply → IsRefusedBefore result
+        → LeavesAll
         (device D.first D.calls D.faults D.strays disk.old) (device D.first D.calls D.faults D.strays disk.new)) }
 
     // Of every other command: no call may change the disk. Of all: a failure has its status.
@@ -128,6 +142,7 @@ pub fn run<D: Disk, F: Folders, S: Sources, K: Sink>(
             Command::Show => show(alloc, line.sector, line.json, disk, out),
             Command::Plan => run_plan(alloc, line, words, disk, folders, sources, out),
             Command::Apply => run_apply(alloc, line, words, disk, folders, sources, out),
+            Command::Check => run_check(alloc, line, words, disk, folders, sources, out),
             Command::Dissect => run_dissect(alloc, line, words, disk, out),
             Command::Policy => run_policy(alloc, words, out),
             Command::Compare => run_compare(alloc, words, out),
@@ -187,12 +202,18 @@ fn run_apply<D: Disk, F: Folders, S: Sources, K: Sink>(
         (store S.told S.faults S.strays sources.old) (store S.told S.faults S.strays sources.new)
         (output K.told K.faults out.old) (output K.told K.faults out.new) result }
     ensures applied { IsDone result → IsApplied (request_of_line line) (paths_of (text_in Opt.Definitions (map string_bytes words.now)))
-        (store F.told F.faults F.strays folders.old) (device D.first D.calls D.faults D.strays disk.old) (device D.first D.calls D.faults D.strays disk.new) (store S.told S.faults S.strays sources.old) }
+        (store F.told F.faults F.strays folders.old)
+        (device D.first D.calls D.faults D.strays disk.old) (device D.first D.calls D.faults D.strays disk.new)
+        (store S.told S.faults S.strays sources.old) }
     ensures second_run { WritesNothingIdle (request_of_line line) (paths_of (text_in Opt.Definitions (map string_bytes words.now)))
-        (store F.told F.faults F.strays folders.old) (device D.first D.calls D.faults D.strays disk.old) (device D.first D.calls D.faults D.strays disk.new) }
+        (store F.told F.faults F.strays folders.old)
+        (device D.first D.calls D.faults D.strays disk.old) (device D.first D.calls D.faults D.strays disk.new) }
     ensures any_moment { IsSafeThroughout (request_of_line line) (paths_of (text_in Opt.Definitions (map string_bytes words.now)))
-        (store F.told F.faults F.strays folders.old) (device D.first D.calls D.faults D.strays disk.old) (device D.first D.calls D.faults D.strays disk.new) (store S.told S.faults S.strays sources.old) }
-    ensures untouched { IsRefusedBefore result → LeavesAll (device D.first D.calls D.faults D.strays disk.old) (device D.first D.calls D.faults D.strays disk.new) }
+        (store F.told F.faults F.strays folders.old)
+        (device D.first D.calls D.faults D.strays disk.old) (device D.first D.calls D.faults D.strays disk.new)
+        (store S.told S.faults S.strays sources.old) }
+    ensures untouched { IsRefusedBefore result → LeavesAll
+        (device D.first D.calls D.faults D.strays disk.old) (device D.first D.calls D.faults D.strays disk.new) }
     ensures holds { Holds
         (store F.told F.faults F.strays folders.old) (store F.told F.faults F.strays folders.new)
         (device D.first D.calls D.faults D.strays disk.old) (device D.first D.calls D.faults D.strays disk.new)
@@ -246,6 +267,39 @@ fn request_of(line: Line) -> Request
         size: line.size,
         sector: line.sector,
     }
+}
+
+fn run_check<D: Disk, F: Folders, S: Sources, K: Sink>(
+    alloc: Global,
+    line: Line,
+    words: &[String],
+    disk: &mut D,
+    folders: &mut F,
+    sources: &mut S,
+    out: &mut K,
+) -> u8
+    requires { IsSector line.sector }
+    ensures { ChecksAsked line.seed line.arch line.sector (paths_of (text_in Opt.Definitions (map string_bytes words.now)))
+        (store F.told F.faults F.strays folders.old) (store F.told F.faults F.strays folders.new)
+        (device D.first D.calls D.faults D.strays disk.old) (device D.first D.calls D.faults D.strays disk.new)
+        (store S.told S.faults S.strays sources.old) (store S.told S.faults S.strays sources.new)
+        (output K.told K.faults out.old) (output K.told K.faults out.new) result }
+{
+    let dirs = match read_paths(alloc, text_of(Opt::Definitions, words)) {
+        Ok(dirs) => dirs,
+        Err(Memory) => return refuse(out, &Refusal::memory()),
+    };
+    check(
+        alloc,
+        line.seed,
+        line.arch,
+        line.sector,
+        dirs.as_slice(),
+        disk,
+        folders,
+        sources,
+        out,
+    )
 }
 
 fn run_dissect<D: Disk, K: Sink>(

@@ -5,7 +5,7 @@ use Rattle.std.specs.Option.{option_or}
 use Rattle.std.specs.Str.{bytes_eq}
 use Rattle.rp_words.specs.declared.line.Line.{Line}
 use Rattle.rp_words.specs.declared.table.Command.{Command}
-use Rattle.rp_words.specs.declared.table.Command.TheVariants.{Show, Plan, Apply, Dissect, Policy, Compare}
+use Rattle.rp_words.specs.declared.table.Command.TheVariants.{Show, Plan, Apply, Check, Dissect, Policy, Compare}
 use Rattle.rp_words.specs.declared.table.CommandRow.{CommandRow}
 use Rattle.rp_words.specs.declared.fault.WordFault.{WordFault}
 use Rattle.rp_words.specs.declared.fault.WordFault.TheVariants.{Missing, NoImage}
@@ -16,7 +16,7 @@ use Rattle.rp_words.specs.Words.{first_of, is_image, last_of}
 
 -- the commands that are built, in the order of the table
 abbrev pub built : List Command
-built = Show ∷ Plan ∷ Apply ∷ Dissect ∷ Policy ∷ Compare ∷ []
+built = Show ∷ Plan ∷ Apply ∷ Check ∷ Dissect ∷ Policy ∷ Compare ∷ []
 
 -- one of these
 abbrev pub IsAmong : Command → List Command → Type 0

@@ -1,5 +1,5 @@
 -- Lines that were worked out by hand come out of the definition.
-use Rattle.std.proofs.Common.{Some, None, ◌≡◌, refl, ℕ, List, [], ◌∷◌, Bool, true, false, replicate}
+use Rattle.std.proofs.Common.{Some, None, ◌≡◌, refl, ℕ, List, [], ◌∷◌, ◌++◌, Bool, true, false, replicate}
 use Rattle.std.specs.Option.{option_map_or}
 use Rattle.std.specs.Prelude.{codes, Ok, Err}
 use Rattle.rp_gpt.specs.declared.table_fault.Empty.TheVariants.{Refuse, Allow}
@@ -43,7 +43,7 @@ show json sector = line Show X86_64 json sector
 no_words : line_of [] ≡ Err NoCommand
 no_words = refl
 
-a_command_that_is_not_built : line_of (codes "check" ∷ codes "image" ∷ []) ≡ Err UnknownCommand
+a_command_that_is_not_built : line_of (codes "make" ∷ codes "image" ∷ []) ≡ Err UnknownCommand
 unfolding command_of commands
 a_command_that_is_not_built = refl
 
@@ -141,6 +141,24 @@ no_size_by_default : size_of_words (codes "image" ∷ []) ≡ 0
 unfolding entry_called options size_of
 no_size_by_default = refl
 
+-- what `check` takes, and what it doesn't
+no_seed_to_check : line_of (codes "check" ∷ codes "--sector-size=4096" ∷ codes "--arch=arm64" ∷ codes "--definitions=a" ∷ codes "image" ∷ [])
+    ≡ Err (Missing Seed)
+unfolding command_of commands first_fault missing entry_called options
+no_seed_to_check = refl
+
+no_size_to_check : line_of (codes "check" ∷ codes "--size=0" ∷ codes "image" ∷ []) ≡ Err (OtherCommand 1)
+unfolding command_of commands first_fault missing entry_called options
+no_size_to_check = refl
+
+no_blank_to_check : line_of (codes "check" ∷ codes "--empty=allow" ∷ codes "image" ∷ []) ≡ Err (OtherCommand 1)
+unfolding command_of commands first_fault missing entry_called options
+no_blank_to_check = refl
+
+no_json_of_a_difference : line_of (codes "check" ∷ codes "--json=off" ∷ codes "image" ∷ []) ≡ Err (OtherCommand 1)
+unfolding command_of commands first_fault missing entry_called options
+no_json_of_a_difference = refl
+
 -- what the commands on policies want
 an_image_for_an_architecture : line_of (codes "dissect" ∷ codes "--json=short" ∷ codes "--arch=arm64" ∷ codes "image" ∷ [])
     ≡ Ok (line Dissect Arm64 true 512)
@@ -189,7 +207,13 @@ help_on_compare : command_in_help (codes "compare")
 unfolding command_in_help commands command_text built_text options
 help_on_compare = refl
 
-help_on_a_command_that_is_not_built : command_in_help (codes "check") ≡ []
+help_on_check : command_in_help (codes "check")
+    ≡ codes "repart check tells whether the image is as apply leaves it:\n\n    repart check\n        --definitions=FOLDER[:FOLDER...]\n"
+    ++ codes "        --seed=UUID\n        [--arch=x86-64|arm64]\n        [--sector-size=512|4096]\n        IMAGE\n\n"
+unfolding command_in_help commands command_text built_text options
+help_on_check = refl
+
+help_on_a_command_that_is_not_built : command_in_help (codes "make") ≡ []
 unfolding command_in_help commands command_text
 help_on_a_command_that_is_not_built = refl
 

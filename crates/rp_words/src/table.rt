@@ -81,7 +81,7 @@ pub(crate) static COMMANDS: [CommandEntry; 8] = [
         "prints what is to become of the table"),
     ("apply", CommandRow { command: Command::Apply, built: true, image: true },
         "changes the image as plan prints it"),
-    ("check", CommandRow { command: Command::Check, built: false, image: true },
+    ("check", CommandRow { command: Command::Check, built: true, image: true },
         "tells whether the image is as apply leaves it"),
     ("dissect", CommandRow { command: Command::Dissect, built: true, image: true },
         "prints which partitions an image policy lets be used"),

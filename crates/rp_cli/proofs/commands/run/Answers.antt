@@ -1,7 +1,7 @@
 use Rattle.std.proofs.Common.{inl, inr, map, string_bytes, subst, sym, true≢false}
 use Rattle.std.specs.Prelude.{◌≢◌, IfOk, IsErr}
 use Rattle.rp_cli.proofs.Policies.{compare_causes, compare_files, compare_words, dissect_causes, dissect_files, policy_causes, policy_files}
-use Rattle.rp_cli.proofs.Promised.{plan_causes, plan_files}
+use Rattle.rp_cli.proofs.Promised.{check_causes, check_files, check_only_read, check_words, plan_causes, plan_files}
 use Rattle.rp_cli.specs.Asked.{request_of}
 use Rattle.rp_outcome.specs.Device.{device}
 use Rattle.rp_outcome.specs.Output.{output}
@@ -39,6 +39,63 @@ returns-in-Plan-clause-files g c =
     (output g.K.Sink.told g.K.Sink.faults c.args.out.now)
     (output g.K.Sink.told g.K.Sink.faults c.run_plan.new.out)
     c.run_plan.result c.run_plan.ensures
+
+-- the same for `check`
+pub returns-in-Check-clause-causes : goal.returns-in-Check-clause-causes
+returns-in-Check-clause-causes g c =
+    check_causes c.in-Ok.line.seed c.in-Ok.line.arch c.in-Ok.line.sector (paths_of (text_in Definitions (map string_bytes c.args.words.now)))
+    (store g.F.Folders.told g.F.Folders.faults g.F.Folders.strays c.args.folders.now)
+    (store g.F.Folders.told g.F.Folders.faults g.F.Folders.strays c.run_check.new.folders)
+    (device g.D.Disk.first g.D.Disk.calls g.D.Disk.faults g.D.Disk.strays c.args.disk.now)
+    (device g.D.Disk.first g.D.Disk.calls g.D.Disk.faults g.D.Disk.strays c.run_check.new.disk)
+    (store g.S.Sources.told g.S.Sources.faults g.S.Sources.strays c.args.sources.now)
+    (store g.S.Sources.told g.S.Sources.faults g.S.Sources.strays c.run_check.new.sources)
+    (output g.K.Sink.told g.K.Sink.faults c.args.out.now)
+    (output g.K.Sink.told g.K.Sink.faults c.run_check.new.out)
+    c.run_check.result c.run_check.ensures
+
+pub returns-in-Check-clause-files : goal.returns-in-Check-clause-files
+returns-in-Check-clause-files g c =
+    check_files c.in-Ok.line.seed c.in-Ok.line.arch c.in-Ok.line.sector (paths_of (text_in Definitions (map string_bytes c.args.words.now)))
+    (store g.F.Folders.told g.F.Folders.faults g.F.Folders.strays c.args.folders.now)
+    (store g.F.Folders.told g.F.Folders.faults g.F.Folders.strays c.run_check.new.folders)
+    (device g.D.Disk.first g.D.Disk.calls g.D.Disk.faults g.D.Disk.strays c.args.disk.now)
+    (device g.D.Disk.first g.D.Disk.calls g.D.Disk.faults g.D.Disk.strays c.run_check.new.disk)
+    (store g.S.Sources.told g.S.Sources.faults g.S.Sources.strays c.args.sources.now)
+    (store g.S.Sources.told g.S.Sources.faults g.S.Sources.strays c.run_check.new.sources)
+    (output g.K.Sink.told g.K.Sink.faults c.args.out.now)
+    (output g.K.Sink.told g.K.Sink.faults c.run_check.new.out)
+    c.run_check.result c.run_check.ensures
+
+pub returns-in-Check-clause-only_read : goal.returns-in-Check-clause-only_read
+returns-in-Check-clause-only_read g c =
+    λ other.
+    check_only_read c.in-Ok.line.seed c.in-Ok.line.arch c.in-Ok.line.sector (paths_of (text_in Definitions (map string_bytes c.args.words.now)))
+    (store g.F.Folders.told g.F.Folders.faults g.F.Folders.strays c.args.folders.now)
+    (store g.F.Folders.told g.F.Folders.faults g.F.Folders.strays c.run_check.new.folders)
+    (device g.D.Disk.first g.D.Disk.calls g.D.Disk.faults g.D.Disk.strays c.args.disk.now)
+    (device g.D.Disk.first g.D.Disk.calls g.D.Disk.faults g.D.Disk.strays c.run_check.new.disk)
+    (store g.S.Sources.told g.S.Sources.faults g.S.Sources.strays c.args.sources.now)
+    (store g.S.Sources.told g.S.Sources.faults g.S.Sources.strays c.run_check.new.sources)
+    (output g.K.Sink.told g.K.Sink.faults c.args.out.now)
+    (output g.K.Sink.told g.K.Sink.faults c.run_check.new.out)
+    c.run_check.result c.run_check.ensures
+
+pub returns-in-Check-clause-words : goal.returns-in-Check-clause-words
+returns-in-Check-clause-words g c = (
+  λ e. absurd (
+      check_words c.in-Ok.line.seed c.in-Ok.line.arch c.in-Ok.line.sector (paths_of (text_in Definitions (map string_bytes c.args.words.now)))
+      (store g.F.Folders.told g.F.Folders.faults g.F.Folders.strays c.args.folders.now)
+      (store g.F.Folders.told g.F.Folders.faults g.F.Folders.strays c.run_check.new.folders)
+      (device g.D.Disk.first g.D.Disk.calls g.D.Disk.faults g.D.Disk.strays c.args.disk.now)
+      (device g.D.Disk.first g.D.Disk.calls g.D.Disk.faults g.D.Disk.strays c.run_check.new.disk)
+      (store g.S.Sources.told g.S.Sources.faults g.S.Sources.strays c.args.sources.now)
+      (store g.S.Sources.told g.S.Sources.faults g.S.Sources.strays c.run_check.new.sources)
+      (output g.K.Sink.told g.K.Sink.faults c.args.out.now)
+      (output g.K.Sink.told g.K.Sink.faults c.run_check.new.out)
+      c.run_check.result c.run_check.ensures e),
+  λ err. absurd (true≢false (sym (subst (λ answer. IsErr answer) (sym c.in-Ok.ensures.line) err))),
+)
 
 -- the same for the commands on policies
 pub returns-in-Dissect-clause-causes : goal.returns-in-Dissect-clause-causes
@@ -134,8 +191,9 @@ returns-in_default g c = elim (asks_for (map string_bytes c.args.words.now) c.in
   | inl show ↦ absurd (c.in_default.not-Show show)
   | inr (inl plan) ↦ absurd (c.in_default.not-Plan plan)
   | inr (inr (inl apply)) ↦ absurd (c.in_default.not-Apply apply)
-  | inr (inr (inr (inl dissect))) ↦ absurd (c.in_default.not-Dissect dissect)
-  | inr (inr (inr (inr (inl policy)))) ↦ absurd (c.in_default.not-Policy policy)
-  | inr (inr (inr (inr (inr (inl compare))))) ↦ absurd (c.in_default.not-Compare compare)
-  | inr (inr (inr (inr (inr (inr none))))) ↦ absurd none
+  | inr (inr (inr (inl check))) ↦ absurd (c.in_default.not-Check check)
+  | inr (inr (inr (inr (inl dissect)))) ↦ absurd (c.in_default.not-Dissect dissect)
+  | inr (inr (inr (inr (inr (inl policy))))) ↦ absurd (c.in_default.not-Policy policy)
+  | inr (inr (inr (inr (inr (inr (inl compare)))))) ↦ absurd (c.in_default.not-Compare compare)
+  | inr (inr (inr (inr (inr (inr (inr none)))))) ↦ absurd none
 ]
