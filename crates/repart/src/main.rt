@@ -5,8 +5,9 @@ use rp_cli::run;
 use rp_disk::FileDisk;
 use rp_io::{HostFolders, HostSink, HostSources};
 use rp_outcome::{MEMORY, WORDS, finish};
+use rp_progress::{Meter, Metered};
 use rp_words::{Command, has_image, help_text, hint_of, read_line};
-use std::io::{self, ErrorKind};
+use std::io::{self, ErrorKind, IsTerminal};
 use std::os::unix::fs::MetadataExt;
 use std::process::ExitCode;
 use std::{env, fs};
@@ -51,24 +52,29 @@ fn print_help(rt: &HostRuntime) -> u8 {
     }
 }
 
-// Does what the words ask for. The image is opened for reading alone, but by the one command that changes it.
+// Does what the words ask for. The image is opened for reading alone, but by the one command that changes it. How far long
+// work is shows on standard error, where that is a terminal.
 fn run_words(rt: &HostRuntime, words: &[String]) -> u8 {
     let path = image_of(rt, words);
-    let mut disk = match read_line(words) {
+    let disk = match read_line(words) {
         Ok(line) if line.command == Command::Apply => FileDisk::open(rt, path),
         _ => FileDisk::open_to_read(rt, path),
     };
+    let meter = Meter::new(rt, rt.stderr().is_terminal());
+    let mut disk = Metered::new(disk, &meter);
     let mut folders = HostFolders::new(rt);
-    let mut sources = HostSources::new(rt);
-    let mut out = HostSink::new(rt);
-    run(
+    let mut sources = Metered::new(HostSources::new(rt), &meter);
+    let mut out = Metered::new(HostSink::new(rt), &meter);
+    let status = run(
         rt.alloc(),
         words,
         &mut disk,
         &mut folders,
         &mut sources,
         &mut out,
-    )
+    );
+    meter.clear();
+    status
 }
 
 // The path of the image: the last word of a command that has one, where it isn't the path of what is neither a file nor a
