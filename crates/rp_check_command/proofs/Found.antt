@@ -7,7 +7,7 @@ use Rattle.rp_check_command.proofs.Planned.{planned_from, same_err}
 use Rattle.rp_check_command.proofs.Sighted.{image_len, still_told}
 use Rattle.rp_check_command.specs.Checks.{ChecksPlanned, Tells}
 use Rattle.rp_defs.specs.declared.definition.Definition.{Definition}
-use Rattle.rp_difference.specs.Difference.{difference}
+use Rattle.rp_difference.specs.Difference.{BeginsWith, difference, table_difference}
 use Rattle.rp_difference.specs.declared.difference.Difference.{Difference}
 use Rattle.rp_disk.specs.History.{History, held}
 use Rattle.rp_disk.specs.Made.{Made, history_told}
@@ -56,6 +56,7 @@ module _ (arch : Arch) (planned : Planned) (disk : Device) (out after : Output) 
     record {
       only_read = record { first = refl; calls = refl; strays = same disk.first };
       settled = settles (history disk);
+      begins = tt;
       refusal = inr refl;
       cause = record { failed = λ e. absurd (apart e); kept = inr refl };
     },
@@ -91,6 +92,7 @@ module _ (arch : Arch) (planned : Planned) (disk : Device) (out after : Output) 
       record {
         only_read = only_read;
         settled = settles (history disk);
+        begins = tt;
         refusal = inl refl;
         cause = record { failed = λ e. rose; kept = inl refl };
       },
@@ -103,12 +105,14 @@ module _ (arch : Arch) (planned : Planned) (disk : Device) (out after : Output) 
 
     -- what differs is known
     pub with_found : (found : Option Difference) → IfSome (history disk) (λ h. found ≡ difference (held h) arch planned.seen planned.plan)
+        → BeginsWith (table_difference planned.seen planned.plan) found
         → later.faults ≡ disk.faults → Tells out after status (Ok found) → ChecksPlanned arch disk later out after status (Ok planned)
-    with_found found is kept tells = (
+    with_found found is begins kept tells = (
       Ok found,
       record {
         only_read = only_read;
         settled = settles (history disk) is;
+        begins = begins;
         refusal = tt;
         cause = record { failed = λ e. absurd (no_err e); kept = inr kept };
       },

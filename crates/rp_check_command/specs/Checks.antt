@@ -1,9 +1,9 @@
 -- What `check` does.
-use Rattle.std.specs.Prelude.{ℕ, ◌≡◌, ◌⊎◌, List, Option, Some, None, Result, Ok, Err, IfErr, IfSome}
+use Rattle.std.specs.Prelude.{ℕ, ◌≡◌, ◌⊎◌, List, Option, Some, None, Result, Ok, Err, IfOk, IfErr, IfSome}
 use Rattle.rp_base.specs.declared.guid.Guid.{Guid}
 use Rattle.rp_check_command.specs.Reports.{difference_line, same_line}
 use Rattle.rp_defs.specs.declared.definition.Definitions.{Definitions}
-use Rattle.rp_difference.specs.Difference.{difference}
+use Rattle.rp_difference.specs.Difference.{BeginsWith, difference, table_difference}
 use Rattle.rp_difference.specs.declared.difference.Difference.{Difference}
 use Rattle.rp_disk.specs.History.{held}
 use Rattle.rp_gpt.specs.declared.table_fault.Empty.TheVariants.{Refuse}
@@ -25,10 +25,12 @@ abbrev pub check_request : Guid → Arch → ℕ → Request
 check_request seed arch sector = record { seed = seed; arch = arch; empty = Refuse; size = 0; sector = sector }
 
 -- the image on a disk was compared with what is planned for it, and nothing was asked of the disk but to read: the first difference where
--- the disk tells its bytes, but for a failure of the disk, which it counted, and want of memory
+-- the disk tells its bytes, but for a failure of the disk, which it counted, and want of memory. Over every disk it is that of copies, MBR,
+-- table and rows by what was seen of the image, where they differ
 pub record Finds (arch : Arch) (planned : Planned) (before now : Device) (answer : Result (Option Difference) Refusal) : Type 0 where
   pub only_read : IsOnlyRead before now
   pub settled : IfSome (history before) (λ h. Settles disk_refusal (Ok (difference (held h) arch planned.seen planned.plan)) answer)
+  pub begins : IfOk answer (BeginsWith (table_difference planned.seen planned.plan))
   pub refusal : IfErr answer (λ refusal. (refusal ≡ disk_refusal) ⊎ (refusal ≡ memory_refusal))
   pub cause : HasStageCause disk_refusal before.faults now.faults answer
 

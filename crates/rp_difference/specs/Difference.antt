@@ -1,5 +1,5 @@
 -- What an image first differs in from what is planned for it: own rules.
-use Rattle.std.specs.Prelude.{ℕ, ◌==◌, List, Bool, true, false, not, ◌&&◌, nat_le, Option, Some, None, find, option_and_then, option_map, if◌then◌else◌}
+use Rattle.std.specs.Prelude.{ℕ, ◌==◌, ◌≡◌, ◌⊎◌, IfSome, List, Bool, true, false, not, ◌&&◌, nat_le, Option, Some, None, find, option_and_then, option_map, if◌then◌else◌}
 use Rattle.std.specs.Option.{option_or}
 use Rattle.std.specs.Str.{bytes_eq}
 use Rattle.rp_base.specs.declared.plan.Change.{Change}
@@ -59,6 +59,20 @@ unfoldable pub tree_difference : List ℕ → Arch → List Row → Designator �
 tree_difference image arch rows d =
     option_map (differences.Tree d)
     (option_and_then (λ payload. option_and_then (bad_of image payload) (tree_row arch rows d)) (row_of arch rows d))
+
+-- what differs is the hash tree of a designator's data
+abbrev pub IsOfTree : Designator → Difference → Type 0
+IsOfTree d (differences.Tree other bad) = other ≡ d
+IsOfTree d other = ⊥
+
+abbrev pub IsOfTrees : Option Difference → Type 0
+IsOfTrees found = IfSome found (λ difference. IsOfTree Root difference ⊎ IsOfTree Usr difference)
+
+-- what is found is what differs of copies, MBR, table and rows, for which nothing more is read of the image; where none of them does, it
+-- is of the hash tree of root or of usr, if anything is
+abbrev pub BeginsWith : Option Difference → Option Difference → Type 0
+BeginsWith (Some first) found = found ≡ Some first
+BeginsWith None found = IsOfTrees found
 
 -- what an image, of which this was seen, first differs in from what is planned for it: copies, MBR, table and rows, then the hash tree of
 -- root, then that of usr

@@ -2,7 +2,7 @@ ghost use Rattle.std.specs.Prelude.{◌≡◌, ◌≤◌, ◌*◌, IfSome, IfOk,
 ghost use Rattle.rp_base.specs.Faults.{HasCause};
 ghost use Rattle.rp_disk.specs.History.{held};
 ghost use Rattle.rp_disk.specs.Made.{history_told};
-ghost use Rattle.rp_difference.specs.Difference.{difference};
+ghost use Rattle.rp_difference.specs.Difference.{BeginsWith, difference, table_difference as table_difference_of};
 ghost use Rattle.rp_gpt.specs.Accepted.{IsSeen};
 
 use crate::table::table_difference;
@@ -50,6 +50,7 @@ pub fn difference_of<D: Disk>(
         → D.strays disk.new ≡ D.strays disk.old) }
     ensures answer { IfSome (history_told (D.first disk.old) (D.calls disk.old)) (λ h.
         IfOk result (λ found. found ≡ difference (held h) arch seen.now plan.now)) }
+    ensures table { IfOk result (BeginsWith (table_difference_of seen.now plan.now)) }
     ensures cause { HasCause (D.faults disk.old) (D.faults disk.new) result }
 {
     if let Some(found) = table_difference(seen, plan) {

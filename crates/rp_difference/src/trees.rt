@@ -2,7 +2,7 @@
 
 ghost use Rattle.std.specs.Prelude.{◌≡◌, ◌+◌, ◌*◌, ◌≤◌, ◌^◌, IfSome, IfOk, length};
 ghost use Rattle.std.specs.Option.{option_or};
-ghost use Rattle.rp_difference.specs.Difference.{bad_of as bad_of_pair, tree_difference as tree_difference_of};
+ghost use Rattle.rp_difference.specs.Difference.{IsOfTree, IsOfTrees, bad_of as bad_of_pair, tree_difference as tree_difference_of};
 ghost use Rattle.rp_disk.specs.History.{held};
 ghost use Rattle.rp_disk.specs.Made.{history_told};
 ghost use Rattle.rp_gpt.specs.Accepted.{IsSeen};
@@ -28,6 +28,7 @@ pub(crate) fn trees_difference<D: Disk>(
     ensures found { IfSome (history_told (D.first disk.old) (D.calls disk.old)) (λ h. IfOk result (λ found.
         found ≡ option_or (tree_difference_of (held h) arch seen.now.shown.rows Designator.Root)
         (tree_difference_of (held h) arch seen.now.shown.rows Designator.Usr))) }
+    ensures tree { IfOk result IsOfTrees }
 {
     if let Some(found) = tree_difference(disk, arch, seen, Designator::Root, room)? {
         return Ok(Some(found));
@@ -48,6 +49,7 @@ fn tree_difference<D: Disk>(
     ensures reads { Reads (512 * seen.now.sectors) (D.first disk.old) (D.first disk.new) (D.calls disk.old) (D.calls disk.new) (D.strays disk.old) (D.strays disk.new) (D.faults disk.old) (D.faults disk.new) result }
     ensures found { IfSome (history_told (D.first disk.old) (D.calls disk.old)) (λ h. IfOk result (λ found.
         found ≡ tree_difference_of (held h) arch seen.now.shown.rows designator)) }
+    ensures tree { IfOk result (λ found. IfSome found (IsOfTree designator)) }
 {
     let rows = seen.shown.rows.as_slice();
     let Some(payload) = row_of(rows, arch, designator) else {

@@ -15,7 +15,8 @@ returns-in-Ok-difference_of g c =
     (output g.K.Sink.told g.K.Sink.faults c.args.out.now) (output g.K.Sink.told g.K.Sink.faults c.tell.new.out) c.tell.result
     (device g.D.Disk.first g.D.Disk.calls g.D.Disk.faults g.D.Disk.strays c.difference_of.new.disk)
     c.in-Ok-difference_of.ensures.first c.in-Ok-difference_of.ensures.calls c.in-Ok-difference_of.ensures.strays c.requires.len
-    c.in-Ok-difference_of.found c.in-Ok-difference_of.ensures.answer c.in-Ok-difference_of.ensures.cause.kept c.tell.ensures
+    c.in-Ok-difference_of.found c.in-Ok-difference_of.ensures.answer c.in-Ok-difference_of.ensures.table
+    c.in-Ok-difference_of.ensures.cause.kept c.tell.ensures
 
 pub returns : goal.returns
 returns g c =

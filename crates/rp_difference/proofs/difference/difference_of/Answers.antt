@@ -1,8 +1,9 @@
 -- What differs of the table is first.
-use Rattle.std.proofs.Common.{◌∙◌, sym}
+use Rattle.std.proofs.Common.{◌∙◌, Some, IfOk, refl, sym, subst}
 use Rattle.rp_disk.specs.History.{held}
 use Rattle.rp_disk.specs.Made.{history_told}
 use Rattle.rp_tree.proofs.ReadsLemmas.{always, if_told, ok-map}
+use Rattle.rp_difference.specs.Difference.{BeginsWith}
 use Rattle.rp_difference.proofs.Differing.{by_table, by_trees}
 use Rattle.rp_difference.proofs.difference.difference_of.Goals as goal
 
@@ -17,3 +18,12 @@ returns-clause-answer g c =
     (λ h. ok-map c.trees_difference.result
     (λ found. by_trees (held h) c.args.arch c.args.seen.now c.args.plan.now found (sym c.table_difference.ensures ∙ c.in_default.is)))
     c.trees_difference.ensures.found
+
+pub returns-in-Some-clause-table : goal.returns-in-Some-clause-table
+returns-in-Some-clause-table g c =
+    subst (λ first. BeginsWith first (Some c.in-Some.found)) (sym (sym c.table_difference.ensures ∙ c.in-Some.is)) refl
+
+pub returns-clause-table : goal.returns-clause-table
+returns-clause-table g c =
+    subst (λ first. IfOk c.trees_difference.result (BeginsWith first)) (sym (sym c.table_difference.ensures ∙ c.in_default.is))
+    c.trees_difference.ensures.tree
