@@ -81,7 +81,9 @@ fn applied_again_and_behind_each_failure(rt: HostRuntime) -> Result<(), Fail> {
     let first = apply(alloc, WELL, &mut disk)?;
     assert!(rt; first.text.bytes() == FIRST.as_bytes());
     assert!(rt; first.status == 0);
-    assert!(rt; disk.bytes()[MIB..].starts_with(&[0x5a; 8192]));
+    let image = disk.bytes();
+    assert!(rt; image.len() == 2 * MIB);
+    assert!(rt; image[MIB..].starts_with(&[0x5a; 8192]));
     let calls = disk.calls().len();
     let again = apply(alloc, WELL, &mut disk)?;
     assert!(rt; again.text.bytes() == AGAIN.as_bytes());
