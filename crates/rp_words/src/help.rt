@@ -230,7 +230,7 @@ mod tests {
                 "\n    --json=off|short\n        lines of text, or one line of JSON; off if not given\n"
             )
         );
-        assert!(rt; !text.contains("repart check"));
+        assert!(rt; !text.contains("repart make"));
         Ok(())
     }
 }
