@@ -1,0 +1,4 @@
+pub mod Given
+pub mod Through
+pub mod Left
+pub mod Public
