@@ -6,7 +6,7 @@ use Rattle.rp_base.specs.declared.seen.Origin.TheVariants as origins
 use Rattle.rp_base.specs.declared.seen.Seen.{Seen}
 use Rattle.rp_base.specs.declared.plan.Plan.{Plan}
 use Rattle.rp_base.specs.declared.table.Table.{Table}
-use Rattle.rp_apply.proofs.tests.a_new_table.Goals as goal
+use Rattle.rp_rows_writes.proofs.apply.a_new_table.Goals as goal
 
 abbrev empty_table : Table
 empty_table = record { sector = 512; entries = 128; disk = record { 0 = replicate 16 7 }; first = 2048; last = 131038; rows = [] }

@@ -1,6 +1,6 @@
-use crate::read_definitions;
 use rp_base::{List, Text};
 use rp_io::{MemFolders, Stored};
+use rp_reading::read_definitions;
 use rp_types::Arch;
 use std::test::Fail;
 

@@ -1,6 +1,6 @@
 ghost use Rattle.std.specs.Prelude.{◌≡◌, [], replicate};
 
-use crate::{Done, commit, prepare};
+use rp_apply::{Done, commit, prepare};
 use rp_base::{Guid, List, Mbr, Origin, Plan, Seen, Table};
 use rp_disk::MemDisk;
 use rp_io::MemSources;

@@ -1,4 +1,4 @@
-use crate::{Counter, Flags, Found, Judged, Kind, compare, flags_for, judge, parse, write};
+use rp_policy::{Counter, Flags, Found, Judged, Kind, compare, flags_for, judge, parse, write};
 use rp_types::Designator;
 use std::test::Fail;
 

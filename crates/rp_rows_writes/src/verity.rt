@@ -1,6 +1,6 @@
-use crate::{Builder, TreeOut, hash_blocks, levels, root_of};
 use rp_base::{Failed, List, Text};
 use rp_io::{MemSources, Stored};
+use rp_verity::{Builder, TreeOut, hash_blocks, levels, root_of};
 use std::process::Abort;
 use std::test::Fail;
 

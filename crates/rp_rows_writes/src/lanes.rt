@@ -1,6 +1,6 @@
 ghost use Rattle.std.specs.Prelude.{◌≤◌, length};
 
-use crate::{digest_blocks, digest4};
+use rp_lanes::{digest_blocks, digest4};
 
 // The digests of FIPS 180-4's examples (of 3 and 56 bytes), and of RFC 6234's of 640 bytes.
 #[rattlefmt::skip]

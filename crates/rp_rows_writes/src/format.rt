@@ -2,9 +2,9 @@ ghost use Rattle.std.specs.Prelude.{◌≡◌, ◌*◌, ◌≤◌};
 ghost use Rattle.rp_base.specs.Trees as trees;
 ghost use Rattle.rp_format.specs.Written.{IsTreePlan};
 
-use crate::{TreePlan, write_tree};
 use rp_base::{Failed, Guid, List, Row};
 use rp_disk::MemDisk;
+use rp_format::{TreePlan, write_tree};
 use rp_tree::check_all;
 use rp_verity::{hash_blocks, levels};
 use std::test::Fail;

@@ -1,4 +1,4 @@
-use super::*;
+use rp_disk::{Disk, FileDisk};
 use std::fs;
 use std::test::Fail;
 

@@ -1,7 +1,7 @@
 ghost use Rattle.std.specs.Prelude.{◌≡◌, ◌≤◌, Some};
 ghost use Rattle.rp_pool.specs.Region.{IsLent, lent};
 
-use crate::{Lease, Pool};
+use rp_pool::{Lease, Pool};
 use std::process::Abort;
 
 /// Lends a run, and finds it at this block.

@@ -1,8 +1,8 @@
-use crate::verdict_text;
 use rp_base::List;
 use rp_policy::{Judged, Kind};
 use rp_types::Designator;
 use rp_verdict::{Verdict, Verdicts};
+use rp_verdict_text::verdict_text;
 use std::test::Fail;
 
 #[test]

@@ -1,6 +1,6 @@
-use crate::{copy_source, write_zeros};
 use rp_base::{List, Text};
 use rp_disk::MemDisk;
+use rp_fill::{copy_source, write_zeros};
 use rp_io::{MemSources, Stored};
 use std::test::Fail;
 

@@ -1,4 +1,4 @@
-use super::*;
+use rp_hmac::hmac;
 use std::test::Fail;
 
 // RFC 4231, cases 1, 2, 3 and 4: those whose keys fit a block and whose codes are whole.

@@ -1,5 +1,5 @@
-use crate::check;
 use rp_base::{Guid, List, Text};
+use rp_check_command::check;
 use rp_disk::MemDisk;
 use rp_io::{MemFolders, MemSink, MemSources};
 use rp_types::Arch;

@@ -1,6 +1,6 @@
-use crate::dissect;
 use rp_base::List;
 use rp_disk::MemDisk;
+use rp_dissect_command::dissect;
 use rp_io::MemSink;
 use rp_types::Arch;
 use std::alloc::{AllocError, Global};

@@ -1,4 +1,4 @@
-use crate::{beyond_text, policy_text};
+use rp_findings::{beyond_text, policy_text};
 use rp_policy::{compare, parse};
 use std::test::Fail;
 

@@ -1,5 +1,6 @@
-use super::*;
-use std::alloc::AllocError;
+use rp_base::{Failed, List};
+use rp_disk::{Disk, MemDisk};
+use std::alloc::{AllocError, Global};
 use std::test::Fail;
 
 fn disk_of(alloc: Global, bytes: &[u8], fail: &[u64]) -> Result<MemDisk, AllocError> {

@@ -1,6 +1,6 @@
-use crate::{compare, policy};
 use rp_base::List;
 use rp_io::MemSink;
+use rp_policy_command::{compare, policy};
 use std::test::Fail;
 
 #[test]
