@@ -16,7 +16,7 @@ use Rattle.rp_gpt.specs.declared.table_fault.Empty.TheVariants.{Refuse, Require}
 use Rattle.rp_headline.proofs.Public.{are_calls_of}
 use Rattle.rp_idle.specs.Idle.{IsPlanned}
 use Rattle.rp_idle.proofs.Public.{plan_for, plannable}
-use Rattle.rp_reset.specs.Reset.{left_note, plan_to, reset as reset_of, reset_table}
+use Rattle.rp_reset.specs.Reset.{left_note, reset as reset_of, reset_table}
 use Rattle.rp_reset.proofs.Public.{all_same, reset_fits, reset_is, reset_writes}
 use Rattle.rp_reset_stops.specs.Through.{IsPlanBehind, IsResetFor}
 use Rattle.rp_reset_stops.proofs.Public.{middle_seen}
@@ -30,9 +30,9 @@ use Rattle.rp_stops.specs.Rows.{IsInNewRow}
 use Rattle.rp_reset_headline.specs.Planned.{IsPlannedAnew, IsReset}
 
 -- the notes of a reset have no roles
-notes_fit : (seen : Seen) (defs : List Definition) (reset : Plan) → reset ≡ plan_to seen (reset_table seen.shown defs) → NotesFit reset
+pub notes_fit : (seen : Seen) (defs : List Definition) (reset : Plan) → reset_of seen defs ≡ Ok (Some reset) → NotesFit reset
 notes_fit seen defs reset is =
-    subst NotesFit (sym is)
+    subst NotesFit (sym (reset_is seen defs reset is))
     (All-map (λ (note : Note). RoleFits note.role) left_note (reset_table seen.shown defs).rows (λ k d below. tt))
 
 -- none of its rows is new, so that it writes no contents
@@ -60,8 +60,7 @@ module _ (sector : ℕ) (old : List ℕ) (empty : Empty) (seen : Seen) (defs : L
   -- the calls of its steps
   pub calls_of_reset : (sources : Sources) → AreCallsOf seen reset [] (calls reset seen sources)
   calls_of_reset sources =
-      let made = are_calls seen reset sources reset_for.plan.fits.well_formed
-      (notes_fit seen defs reset (reset_is seen defs reset is.reset_is)) in
+      let made = are_calls seen reset sources reset_for.plan.fits.well_formed (notes_fit seen defs reset is.reset_is) in
       subst (λ body. AreCallsOf seen reset body (calls reset seen sources))
       (no_contents seen defs reset is.reset_is (contents_calls reset sources) made.inside) made
 

@@ -107,18 +107,20 @@ module _ (sector : ℕ) (old : List ℕ) (empty : Empty) (seen : Seen) (target :
     -- all calls of their steps
     pub done_anew : IsDoneAnew sector old seen defs seed reset plan sources (all_done old (calls_of_both seen reset plan sources))
     done_anew = record {
-      goal = goal_anew (calls reset seen sources) (contents_calls plan sources) (calls plan (seen_after seen reset) sources) by_reset by_plan;
+      goal = goal_anew (calls reset seen sources) (contents_calls plan sources) (calls plan (seen_after seen reset) sources)
+          by_reset by_plan;
       final = last;
       new_rows = last.rows;
     }
 
-    -- a stop leaves the contents of these sources where it leaves what the calls write
-    exactly : (image : List ℕ)
-        → IsSafeThrough sector old seen reset plan (HoldWhatFills (image_between old seen reset sources) plan (contents_calls plan sources)) image
+    -- what these calls give is what the sources' rows hold
+    abbrev Given : List ℕ → Type 0
+    Given = HoldWhatFills (image_between old seen reset sources) plan (contents_calls plan sources)
+
+    exactly : (image : List ℕ) → IsSafeThrough sector old seen reset plan Given image
         → IsSafeThrough sector old seen reset plan (HoldAnew old seen reset plan sources) image
     exactly image safe =
-        holds_less sector old seen reset plan
-        (HoldWhatFills (image_between old seen reset sources) plan (contents_calls plan sources)) (HoldAnew old seen reset plan sources) image
+        holds_less sector old seen reset plan Given (HoldAnew old seen reset plan sources) image
         (λ holds. holds (contents_anew old seen reset plan sources) filled) safe
 
     -- a stop in a part of the calls

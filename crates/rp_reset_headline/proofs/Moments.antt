@@ -43,14 +43,16 @@ module _ (sector : ℕ) (bytes : List ℕ) (empty : Empty) (seen : Seen) (target
       → AreCallsOf seen reset [] before → AreCallsOf (seen_after seen reset) plan body behind
       → IsLeftSo (IsSafeIfHonest sector old seen reset plan (HoldWhatFills (all_done old before) plan body))
   left_any before body behind any are are_behind made image since =
-      moment_honest sector bytes empty seen defs reset plan before body behind was now any (reset_for sector old empty seen defs reset is) are
+      moment_honest sector bytes empty seen defs reset plan before body behind was now any
+      (reset_for sector old empty seen defs reset is) are
       (plan_fits sector old empty seen defs reset is target facts seed plan anew) are_behind made image since
 
   pub left_any_whole : (before body behind : List Call) → AtAnyMomentBehindSync (Some bytes) was (before ++ behind) now
       → AreCallsOf seen reset [] before → AreCallsOf (seen_after seen reset) plan body behind
       → IsLeftSo (IsSafeIfWhole sector old seen reset plan (HoldWhatFills (all_done old before) plan body))
   left_any_whole before body behind any are are_behind made image since =
-      moment_whole sector bytes empty seen defs reset plan before body behind was now any (reset_for sector old empty seen defs reset is) are
+      moment_whole sector bytes empty seen defs reset plan before body behind was now any
+      (reset_for sector old empty seen defs reset is) are
       (plan_fits sector old empty seen defs reset is target facts seed plan anew) are_behind made image since
 
   pub left_honest : (sources : Sources) → AtAnyMomentBehindSync (Some bytes) was (calls_of_both seen reset plan sources) now → NotesFit plan

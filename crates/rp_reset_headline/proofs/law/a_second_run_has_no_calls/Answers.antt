@@ -7,5 +7,6 @@ returns-clause-done c sector old empty seen target defs facts seed reset plan be
     done_nothing_left sector old empty seen target defs facts seed reset plan is anew before body behind are are_behind none
 
 pub returns-clause-left : goal.returns-clause-left
-returns-clause-left c sector bytes empty seen target defs facts seed reset plan before body behind was now ends is anew are are_behind none =
+returns-clause-left c sector bytes empty seen target defs facts seed reset plan before body behind was now ends is anew are
+    are_behind none =
     ends_nothing_left sector bytes empty seen target defs facts seed reset plan was now is anew before body behind ends are are_behind none
