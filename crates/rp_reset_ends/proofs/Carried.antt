@@ -1,5 +1,5 @@
 -- What a run with a factory reset leaves, by what was made on the disk.
-use Rattle.std.proofs.Common.{◌≡◌, ◌∙◌, ℕ, ◌%◌, ◌^◌, ◌≤◌, List, [], ◌∷◌, ◌++◌, Option, Some, None, Result, Ok, Err, refl, sym, ap, subst, append_assoc}
+use Rattle.std.proofs.Common.{◌≡◌, ◌∙◌, ℕ, ◌%◌, ◌^◌, ◌≤◌, List, [], ◌∷◌, ◌++◌, Option, Some, None, Ok, Err, refl, sym, ap, subst, append_assoc}
 use Rattle.std.specs.Prelude.{IfErr, IfSome}
 use Rattle.rp_apply.specs.Called.{AreCallsFor, no_sources}
 use Rattle.rp_apply.specs.Sourced.{paths_of}
@@ -29,7 +29,7 @@ use Rattle.rp_outcome.specs.Store.{Store}
 use Rattle.rp_planned.specs.Planning.{target_of, with_seen}
 use Rattle.rp_planned.specs.declared.planned.Planned.{Planned}
 use Rattle.rp_planned.specs.declared.request.Request.{Request}
-use Rattle.rp_reset_ends.specs.Both.{CarriesBoth, CarriesThen, PlansWithReset, behind_reset}
+use Rattle.rp_reset_ends.specs.Planned.{PlansWithReset, behind_reset}
 use Rattle.rp_reset_ends.specs.Ends.{AreGoalsOf, CarriesAllOfBoth, CarriesSomeOfBoth, StopsBothExactly, StopsBothSafely}
 use Rattle.rp_reset_ends.proofs.Alike.{calls_are_for}
 use Rattle.rp_reset_ends.proofs.Goals.{are_goals, are_told}
@@ -211,6 +211,7 @@ module _ (request : Request) (definitions : Definitions) (disk opened read : Dev
     abbrev rest : List Call
     rest = calls_for plan (seen_after seen reset) (sources_by sources.told)
 
+    -- the reset was broken off
     module _ (refusal : Refusal) (carries : CarriesOut definitions (with_seen seen reset) read later asked drained before (Err refusal)) where
       made_part : MadeFirst disk.calls (Sync ∷ before ++ rest) later.calls
       made_part = made_longer disk.calls later.calls (Sync ∷ before) rest
@@ -224,12 +225,13 @@ module _ (request : Request) (definitions : Definitions) (disk opened read : Dev
           plans.asks.told bytes tells files told)
           ∙ ap (λ o. calls_for reset seen (Given list files) ++ calls_for plan (seen_after seen reset) (sources_by o)) told
 
-      broken_off : (rest : List Call) × CarriesSomeOfBoth request definitions.list disk later sources seen reset plan before rest
+      pub broken_off : (rest : List Call) × CarriesSomeOfBoth request definitions.list disk later sources seen reset plan before rest
       broken_off = (
         rest,
         some later before rest carries.are (calls_are_for plan (sources_by sources.told) (seen_after seen reset)) made_part exact_part,
       )
 
+    -- it was done, and the plan behind it was carried out, or the first of its calls
     module _ (between : Device) (left : Store (List Stored)) (behind : List Call) (answer : Outcome)
         (resets_so : CarriesOut definitions (with_seen seen reset) read between asked left before (Ok tt))
         (carries : CarriesOut definitions (behind_reset seen reset plan) between later left drained behind answer) where
@@ -255,25 +257,3 @@ module _ (request : Request) (definitions : Definitions) (disk opened read : Dev
           → CarriesAllOfBoth request definitions.list disk later sources seen reset plan before behind
       all_of_both done = all later before behind resets_so.are carries.are made_both exact_both
           (more disk.calls between.calls later.calls (Sync ∷ before) behind so_far done)
-
-    -- both plans are carried out, or the first of their calls
-    pub carries_some : (behind : List Call) (answer : Outcome)
-        → CarriesBoth definitions seen reset plan read later asked drained before behind answer
-        → (rest : List Call) × CarriesSomeOfBoth request definitions.list disk later sources seen reset plan before rest
-    carries_some behind answer carries = by carries.first carries.resets carries.then where
-      by : (outcome : Outcome) → CarriesOut definitions (with_seen seen reset) read carries.between asked carries.left before outcome
-          → CarriesThen definitions (behind_reset seen reset plan) carries.between later carries.left drained behind outcome answer
-          → (rest : List Call) × CarriesSomeOfBoth request definitions.list disk later sources seen reset plan before rest
-      by (Ok done) out then = (behind, some_of_both carries.between carries.left behind answer out then)
-      by (Err refusal) out then =
-          broken_off refusal (subst (λ s. CarriesOut definitions (with_seen seen reset) read later asked s before (Err refusal)) (sym then.1)
-          (subst (λ d. CarriesOut definitions (with_seen seen reset) read d asked carries.left before (Err refusal)) (sym then.0) out))
-
-    pub carries_all : (behind : List Call) → CarriesBoth definitions seen reset plan read later asked drained before behind (Ok tt)
-        → CarriesAllOfBoth request definitions.list disk later sources seen reset plan before behind
-    carries_all behind carries = by carries.first carries.resets carries.then where
-      by : (outcome : Outcome) → CarriesOut definitions (with_seen seen reset) read carries.between asked carries.left before outcome
-          → CarriesThen definitions (behind_reset seen reset plan) carries.between later carries.left drained behind outcome (Ok tt)
-          → CarriesAllOfBoth request definitions.list disk later sources seen reset plan before behind
-      by (Ok done) out then = all_of_both carries.between carries.left behind (Ok tt) out then then.ran.ok
-      by (Err refusal) out then = absurd (let f : ◌≡◌ {A = Outcome} (Ok tt) (Err refusal) = then.2 in cc)

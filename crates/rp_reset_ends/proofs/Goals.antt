@@ -24,7 +24,7 @@ use Rattle.rp_planned.specs.declared.request.Request.{Request}
 use Rattle.rp_planned.proofs.Target.{target_is}
 use Rattle.rp_reading.specs.Stages.{Settles}
 use Rattle.rp_reset.proofs.Public.{reset_is}
-use Rattle.rp_reset_ends.specs.Both.{PlansWithReset, behind_reset}
+use Rattle.rp_reset_ends.specs.Planned.{PlansWithReset, behind_reset}
 use Rattle.rp_reset_ends.specs.Ends.{AreGoalsOf, AreToldGoals}
 use Rattle.rp_sizes.specs.Facts.{facts}
 use Rattle.rp_sizes.specs.declared.need.Fact.{Fact}

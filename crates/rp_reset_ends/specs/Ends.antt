@@ -1,5 +1,5 @@
 -- What a run of `apply` with a factory reset made of an image, and what a stop at any moment might have left: own rules.
-use Rattle.std.specs.Prelude.{ℕ, ◌≡◌, ◌++◌, List, ◌∷◌, Bool, false, IfSome, Some, Ok}
+use Rattle.std.specs.Prelude.{ℕ, ◌≡◌, ◌++◌, List, ◌∷◌, false, IfSome, Some, Ok}
 use Rattle.rp_apply.specs.Called.{AreCallsFor}
 use Rattle.rp_apply_command.specs.Applies.{PlanFits}
 use Rattle.rp_apply_command.specs.Ends.{AtEachMoment, AtTheEnd, Given}
@@ -20,7 +20,7 @@ use Rattle.rp_plan.specs.Goal.{goal}
 use Rattle.rp_planned.specs.Planning.{must_repair, target_of}
 use Rattle.rp_planned.specs.declared.request.Request.{Request}
 use Rattle.rp_reset.specs.Reset.{reset as reset_of}
-use Rattle.rp_reset_ends.specs.Both.{behind_reset}
+use Rattle.rp_reset_ends.specs.Planned.{behind_reset}
 use Rattle.rp_reset_headline.specs.Anew.{HasGoalAnew, HoldAnew, IsDoneAnew, calls_of_both}
 use Rattle.rp_reset_headline.specs.Planned.{IsPlannedAnew, IsReset}
 use Rattle.rp_reset_stops.specs.Through.{HoldWhatFills, IsSafeIfHonest, IsSafeIfWhole}

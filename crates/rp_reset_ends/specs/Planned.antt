@@ -1,11 +1,8 @@
--- What a run of `apply` with a factory reset plans and carries out, by its stages: own rules.
-use Rattle.std.specs.Prelude.{◌≡◌, ◌*◌, Bool, false, List, Result, Ok, Err, Some}
-use Rattle.rp_apply_command.specs.Applies.{CarriesOut, Outcome}
+-- What is planned with a factory reset, by its stages: own rules.
+use Rattle.std.specs.Prelude.{◌≡◌, false, List, Ok, Some}
 use Rattle.rp_base.specs.declared.plan.Plan.{Plan}
 use Rattle.rp_base.specs.declared.seen.Seen.{Seen}
 use Rattle.rp_defs.specs.declared.definition.Definition.{Definition}
-use Rattle.rp_defs.specs.declared.definition.Definitions.{Definitions}
-use Rattle.rp_disk.specs.declared.call.Call.{Call}
 use Rattle.rp_io.specs.declared.stored.Stored.{Stored}
 use Rattle.rp_outcome.specs.Device.{Device}
 use Rattle.rp_outcome.specs.Store.{Store}
@@ -31,20 +28,3 @@ pub record PlansWithReset (request : Request) (list : List Definition) (disk rea
   pub reset_is : reset_of seen list ≡ Ok (Some reset)
   pub asks : AsksSources request.seed reset.goal list sources asked (Ok known)
   pub goal_is : goal (seen_after seen reset) (target_of request.size (seen_after seen reset)) list known request.seed ≡ Ok plan
-
--- a plan is carried out behind another that was, and where that one was broken off it isn't begun
-abbrev pub CarriesThen : Definitions → Planned → Device → Device → Store (List Stored) → Store (List Stored) → List Call → Outcome
-    → Outcome → Type 0
-CarriesThen definitions planned disk later sources drained calls (Ok done) answer =
-    CarriesOut definitions planned disk later sources drained calls answer
-CarriesThen definitions planned disk later sources drained calls (Err refusal) answer =
-    (later ≡ disk) × (drained ≡ sources) × (answer ≡ Err refusal)
-
--- the reset is carried out, and then the plan behind it
-pub record CarriesBoth (definitions : Definitions) (seen : Seen) (reset plan : Plan) (disk later : Device)
-    (sources drained : Store (List Stored)) (before behind : List Call) (answer : Outcome) : Type 0 where
-  pub between : Device
-  pub left : Store (List Stored)
-  pub first : Outcome
-  pub resets : CarriesOut definitions (with_seen seen reset) disk between sources left before first
-  pub then : CarriesThen definitions (behind_reset seen reset plan) between later left drained behind first answer
