@@ -4,7 +4,7 @@ use Rattle.std.specs.Prelude.{IfErr, IfSome}
 use Rattle.rp_apply.specs.Called.{AreCallsFor, no_sources}
 use Rattle.rp_apply.specs.Sourced.{paths_of}
 use Rattle.rp_apply_command.specs.Applies.{CarriesOut, Outcome, PlanFits}
-use Rattle.rp_apply_command.specs.Ends.{AtEachMoment, AtTheEnd, Given}
+use Rattle.rp_apply_command.specs.Ends.{AtTheEnd, Given}
 use Rattle.rp_apply_command.proofs.Called.{are_calls_for}
 use Rattle.rp_apply_command.proofs.Runs.{ends_with_sync}
 use Rattle.rp_base.specs.Geometry.{IsSector}
@@ -14,7 +14,7 @@ use Rattle.rp_defs.specs.WellFormed.{IsWellFormed}
 use Rattle.rp_defs.specs.declared.definition.Definition.{Definition}
 use Rattle.rp_defs.specs.declared.definition.Definitions.{Definitions}
 use Rattle.rp_disk.specs.Blocks.{flat}
-use Rattle.rp_disk.specs.History.{History, held}
+use Rattle.rp_disk.specs.History.{held}
 use Rattle.rp_disk.specs.Made.{Made, dones, history_of, history_told}
 use Rattle.rp_disk.specs.Runs.{AtAnyMomentBehindSync, EndsSettled, MadeFirst}
 use Rattle.rp_disk.specs.declared.call.Call.{Call}

@@ -1,5 +1,5 @@
 -- What was planned with a factory reset is a reset of the old table, and the goal of what it leaves.
-use Rattle.std.proofs.Common.{◌≡◌, ◌∙◌, ℕ, ◌%◌, ◌/◌, ◌^◌, ◌≤◌, List, [], ◌∷◌, ◌++◌, Option, Some, Result, Ok, sym, ap, subst}
+use Rattle.std.proofs.Common.{◌≡◌, ◌∙◌, ℕ, ◌%◌, ◌/◌, ◌^◌, ◌≤◌, List, [], ◌∷◌, ◌++◌, Some, Result, Ok, ap, subst}
 use Rattle.std.specs.Prelude.{IfSome, max}
 use Rattle.rp_apply_command.specs.Applies.{PlanFits}
 use Rattle.rp_apply_command.proofs.Goals.{accepted_of, settled_ok}
@@ -11,7 +11,6 @@ use Rattle.rp_defs.specs.WellFormed.{IsWellFormed}
 use Rattle.rp_defs.specs.declared.definition.Definition.{Definition}
 use Rattle.rp_disk.specs.History.{History, held}
 use Rattle.rp_disk.specs.Made.{dones, history_of, history_told}
-use Rattle.rp_disk.specs.declared.call.Call.{Call}
 use Rattle.rp_disk.specs.declared.call.Call.TheVariants.{Sync}
 use Rattle.rp_gpt.specs.Shown.{accepted}
 use Rattle.rp_io.specs.declared.stored.Stored.{Stored}
