@@ -1,14 +1,12 @@
 -- What is planned behind a reset can be carried out.
-use Rattle.std.proofs.Common.{◌≡◌, ◌∙◌, ℕ, ◌*◌, ◌≤◌, ◌%◌, ◌^◌, Bool, true, false, List, length, map, Option, Some, None, Result, Ok, Err, refl, sym, ap, subst, inl, inr, All}
+use Rattle.std.proofs.Common.{◌≡◌, ℕ, ◌*◌, ◌≤◌, ◌%◌, ◌^◌, List, length, Option, Some, None, Ok, sym, subst, inl, inr, All}
 use Rattle.std.specs.Prelude.{IfSome}
 use Rattle.std.proofs.lemmas.List.Elements.{All-map}
 use Rattle.rp_apply.specs.Commits.{HavePlannedRoots}
 use Rattle.rp_apply.specs.Sourced.{NamesSource, paths_of}
 use Rattle.rp_base.specs.Geometry.{IsSector}
-use Rattle.rp_base.specs.declared.plan.Note.{Note}
 use Rattle.rp_base.specs.declared.plan.Plan.{Plan}
 use Rattle.rp_base.specs.declared.seen.Seen.{Seen}
-use Rattle.rp_base.specs.declared.table.Row.{Row}
 use Rattle.rp_defs.specs.WellFormed.{IsWellFormed}
 use Rattle.rp_defs.specs.declared.definition.Definition.{Definition}
 use Rattle.rp_disk.specs.History.{History, held}
@@ -36,8 +34,7 @@ use Rattle.rp_step.specs.Sourced.{sources_in}
 use Rattle.rp_stops.proofs.Accepting.{accepted-sized}
 use Rattle.rp_apply_command.proofs.Allowed.{can_prepare}
 use Rattle.rp_apply_command.proofs.Goals.{accepted_of, settled_ok}
-use Rattle.rp_apply_command.specs.Carrying.{HasToldRoots}
-use Rattle.rp_reset_command.proofs.Known.{Aimed, Known, aimed, known, plans_blind}
+use Rattle.rp_reset_command.proofs.Known.{Aimed, aimed, known, plans_blind}
 use Rattle.rp_reset_command.proofs.Left.{left_seen, no_repair}
 use Rattle.rp_reset_command.specs.Carrying.{CanRenew, IsFormed}
 use Rattle.rp_reset_command.specs.Renewing.{RenewsImage, seen_left}

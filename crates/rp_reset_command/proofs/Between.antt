@@ -1,5 +1,5 @@
 -- Between both plans: what the first leaves of a disk, so that the second can be carried out.
-use Rattle.std.proofs.Common.{◌≡◌, ◌∙◌, ℕ, ◌*◌, ◌++◌, ◌≢◌, Bool, true, false, filter, List, [], ◌∷◌, length, map, Option, Some, None, Result, Ok, Err, refl, sym, ap, subst, inl, inr, arith, All}
+use Rattle.std.proofs.Common.{◌≡◌, ◌∙◌, ℕ, ◌*◌, ◌++◌, false, filter, List, [], ◌∷◌, length, map, Option, Some, None, Ok, refl, sym, ap, subst, All}
 use Rattle.std.specs.Prelude.{IfSome, zip}
 use Rattle.std.proofs.lemmas.List.Elements.{All-cons, All-head, All-map, All-nil, All-tail}
 use Rattle.rp_apply.specs.Called.{AreAlike, AreCallsFor, no_sources}
@@ -22,7 +22,6 @@ use Rattle.rp_gpt.specs.declared.table_fault.Empty.{Empty}
 use Rattle.rp_io.specs.declared.stored.Stored.{Stored}
 use Rattle.rp_outcome.specs.Device.{Device, history}
 use Rattle.rp_outcome.specs.Store.{Store}
-use Rattle.rp_planned.specs.declared.planned.Planned.{Planned}
 use Rattle.rp_reset.proofs.Public.{all_same, reset_is}
 use Rattle.rp_reset.specs.Reset.{left_note, reset as reset_of, reset_table}
 use Rattle.rp_reset_stops.proofs.Given.{middle_length, old_length, own_length}

@@ -1,5 +1,5 @@
 -- Both plans of a reset, one behind the other.
-use Rattle.std.proofs.Common.{◌≡◌, ◌∙◌, ◌++◌, List, [], Option, Some, None, Result, Ok, Err, refl, sym, ap, subst}
+use Rattle.std.proofs.Common.{◌≡◌, ◌∙◌, ◌++◌, List, [], Some, Result, Ok, Err, refl, ap}
 use Rattle.rp_apply.specs.Ready.{IsReadyFor}
 use Rattle.rp_apply.specs.declared.ready.Ready.{Ready}
 use Rattle.rp_base.specs.declared.plan.Plan.{Plan}

@@ -1,5 +1,5 @@
 -- What is known where there is a plan behind a reset.
-use Rattle.std.proofs.Common.{◌≡◌, ◌∙◌, Bool, true, false, List, [], Option, Some, None, Result, Ok, Err, refl, sym, ap, subst, inl, inr}
+use Rattle.std.proofs.Common.{◌≡◌, Bool, true, false, List, [], Option, None, Result, Ok, Err, refl, sym, subst, inl, inr}
 use Rattle.rp_base.specs.declared.plan.Plan.{Plan}
 use Rattle.rp_base.specs.declared.seen.Seen.{Seen}
 use Rattle.rp_defs.specs.declared.definition.Definition.{Definition}
@@ -18,7 +18,6 @@ use Rattle.rp_reset.specs.Reset.{reset as reset_of}
 use Rattle.rp_sizes.specs.declared.need.Fact.{Fact}
 use Rattle.rp_apply_command.proofs.Goals.{goal_by}
 use Rattle.rp_gpt.specs.Accepted.{IsSeen}
-use Rattle.rp_reset_command.proofs.Left.{no_repair}
 use Rattle.rp_reset_command.specs.Renewing.{RenewsBehind, RenewsImage, RenewsLeft, RenewsSeen, RenewsUnless, ResetsSeen, renewed, renewed_by, seen_left}
 use Rattle.rp_reset_command.specs.declared.renewal.Renewal.{Renewal}
 

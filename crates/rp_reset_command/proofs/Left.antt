@@ -1,8 +1,8 @@
 -- What is seen behind a reset can be planned for as what was seen.
-use Rattle.std.proofs.Common.{◌≡◌, ◌∙◌, ℕ, ◌≤◌, ◌/◌, Bool, true, false, List, length, Option, Some, None, Result, Ok, Err, refl, sym, ap, subst, inl, inr, arith}
+use Rattle.std.proofs.Common.{◌≡◌, ◌∙◌, ℕ, ◌≤◌, ◌/◌, Bool, true, false, List, Option, Some, None, Ok, refl, sym, ap, subst}
 use Rattle.std.specs.Prelude.{◌&&◌, IfSome, nat_lt}
 use Rattle.rp_base.specs.Geometry.{least_sectors, sector_units}
-use Rattle.rp_base.specs.Plan.{Fits, IsWellFormed as IsPlan}
+use Rattle.rp_base.specs.Plan.{IsWellFormed as IsPlan}
 use Rattle.rp_base.specs.Table.{IsWhole}
 use Rattle.rp_base.specs.declared.plan.Plan.{Plan}
 use Rattle.rp_base.specs.declared.seen.Seen.{Seen}

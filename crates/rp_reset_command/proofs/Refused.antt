@@ -1,5 +1,5 @@
 -- Why nothing is planned with a factory reset.
-use Rattle.std.proofs.Common.{◌≡◌, ◌⊎◌, ◌∙◌, ℕ, Bool, true, false, List, Option, Some, None, Result, Ok, Err, refl, sym, ap, subst, inl, inr, arith}
+use Rattle.std.proofs.Common.{◌≡◌, ◌⊎◌, ◌∙◌, Bool, true, false, List, Option, Result, Ok, Err, refl, sym, ap, subst, inl, inr}
 use Rattle.rp_apply_command.proofs.Goals.{none_planned}
 use Rattle.rp_apply_command.specs.Ends.{IsBefore, IsBetween}
 use Rattle.rp_base.specs.declared.plan.Plan.{Plan}

@@ -1,5 +1,5 @@
 -- What planning with a reset answers, by where it ends.
-use Rattle.std.proofs.Common.{◌≡◌, ◌∙◌, Bool, true, false, List, Option, Some, None, Result, Ok, Err, refl, sym, ap, subst, inl, inr}
+use Rattle.std.proofs.Common.{◌≡◌, Bool, true, false, List, Option, Result, Ok, Err, refl, sym, ap, subst, inl, inr}
 use Rattle.rp_base.specs.Answers.{Gives}
 use Rattle.rp_base.specs.declared.plan.Plan.{Plan}
 use Rattle.rp_base.specs.declared.seen.Seen.{Seen}
@@ -8,7 +8,7 @@ use Rattle.rp_demand.specs.declared.demand.Demand.{Demand}
 use Rattle.rp_demand.specs.declared.demand.Demand.TheVariants as demands
 use Rattle.rp_io.specs.declared.stored.Stored.{Stored}
 use Rattle.rp_outcome.specs.Demands.{demand_refusal}
-use Rattle.rp_outcome.specs.Refusals.{Refusal, memory_refusal, repair_refusal}
+use Rattle.rp_outcome.specs.Refusals.{Refusal, repair_refusal}
 use Rattle.rp_outcome.specs.Store.{Store}
 use Rattle.rp_planned.specs.Planning.{PlansUnless, must_repair}
 use Rattle.rp_planned.specs.declared.planned.Planned.{Planned}

@@ -1,5 +1,5 @@
 -- What was carried out of what is planned with a factory reset.
-use Rattle.std.proofs.Common.{◌≡◌, ◌∙◌, ℕ, ◌%◌, ◌^◌, ◌≤◌, List, [], ◌∷◌, ◌++◌, Bool, true, false, Option, Some, None, Result, Ok, Err, refl, sym, ap, subst}
+use Rattle.std.proofs.Common.{◌≡◌, ◌∙◌, ◌%◌, ◌^◌, ◌≤◌, List, [], ◌∷◌, ◌++◌, Bool, false, Option, Some, None, Ok, Err, refl, sym, ap, subst}
 use Rattle.rp_apply_command.proofs.Moments.{carries_all, carries_some}
 use Rattle.rp_apply_command.specs.Applies.{CarriesOut, Outcome, PlanFits}
 use Rattle.rp_base.specs.Geometry.{IsSector}
@@ -12,18 +12,15 @@ use Rattle.rp_disk.specs.declared.call.Call.{Call}
 use Rattle.rp_disk.specs.declared.call.Call.TheVariants.{Sync}
 use Rattle.rp_io.specs.declared.stored.Stored.{Stored}
 use Rattle.rp_outcome.specs.Device.{Device}
-use Rattle.rp_outcome.specs.Refusals.{Refusal}
 use Rattle.rp_outcome.specs.Store.{Store}
-use Rattle.rp_planned.specs.Planning.{PlansImage, PlansUnless, ReadsImage, must_repair, with_seen}
+use Rattle.rp_planned.specs.Planning.{PlansImage, PlansUnless, with_seen}
 use Rattle.rp_planned.specs.declared.planned.Planned.{Planned}
 use Rattle.rp_planned.specs.declared.request.Request.{Request}
-use Rattle.rp_reset.specs.Reset.{reset as reset_of}
 use Rattle.rp_reset_command.proofs.Known.{Aimed, Known, aimed, known}
 use Rattle.rp_reset_command.specs.Applies.{CarriesBoth, CarriesRenewal, GoesOn}
 use Rattle.rp_reset_command.specs.Renewing.{RenewsImage, seen_left, with_reset}
 use Rattle.rp_reset_command.specs.declared.renewal.Renewal.{Renewal}
 use Rattle.rp_reset_ends.proofs.Public.{all_of_both, broken_off, some_of_both}
-use Rattle.rp_reset_ends.specs.Ends.{CarriesAllOfBoth, CarriesSomeOfBoth}
 use Rattle.rp_reset_ends.specs.Planned.{PlansWithReset, behind_reset}
 use Rattle.rp_stops.specs.After.{seen_after}
 use Rattle.rp_reset_promise.specs.Ends.{CarriesAllBy, CarriesSomeBy}

@@ -1,6 +1,5 @@
 -- Each status but 0 of a run with a factory reset has its cause.
-use Rattle.std.proofs.Common.{◌≡◌, ◌≢◌, ◌⊎◌, ◌∙◌, ℕ, ◌≤◌, Bool, true, false, List, [], Option, Some, None, Result, Ok, Err, refl, sym, ap, subst, inl, inr, arith}
-use Rattle.std.specs.Prelude.{IfSome}
+use Rattle.std.proofs.Common.{◌≡◌, ◌⊎◌, ◌∙◌, ℕ, Bool, true, false, List, Option, Some, None, Result, Ok, Err, refl, sym, ap, subst, inl, inr, arith}
 use Rattle.rp_apply_command.specs.Applies.{CarriesOut, EndsHere, IsCommitRefusal, Opens, Outcome}
 use Rattle.rp_base.specs.Faults.{Rose}
 use Rattle.rp_base.specs.declared.plan.Plan.{Plan}
@@ -11,14 +10,13 @@ use Rattle.rp_demand.specs.declared.demand.Demand.{Demand}
 use Rattle.rp_disk.specs.declared.call.Call.{Call}
 use Rattle.rp_io.specs.Files.{Tree}
 use Rattle.rp_io.specs.declared.stored.Stored.{Stored}
-use Rattle.rp_outcome.specs.Causes.{HasCauses}
 use Rattle.rp_outcome.specs.Demands.{demand_refusal}
-use Rattle.rp_outcome.specs.Device.{Device, IsOnlyRead}
+use Rattle.rp_outcome.specs.Device.{Device}
 use Rattle.rp_outcome.specs.Output.{Output, Finishes, Prints, Refuses}
 use Rattle.rp_outcome.specs.Refusals.{Refusal, disk_refusal, folder_refusal, line_of, memory_refusal, repair_refusal, source_refusal}
 use Rattle.rp_outcome.specs.Store.{Store}
 use Rattle.rp_plan.specs.Goal.{goal}
-use Rattle.rp_planned.specs.Files.{HasFileCauses, TellsFailure}
+use Rattle.rp_planned.specs.Files.{TellsFailure}
 use Rattle.rp_planned.specs.Planning.{AsksSources, IsImageRefusal, PlansBy, PlansUnless, ReadsImage, must_repair, target_of, with_seen}
 use Rattle.rp_planned.specs.declared.planned.Planned.{Planned}
 use Rattle.rp_planned.specs.declared.request.Request.{Request}

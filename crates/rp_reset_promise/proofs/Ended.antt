@@ -1,16 +1,14 @@
 -- How a run of `apply` with a factory reset ends on the disk.
-use Rattle.std.proofs.Common.{◌≡◌, ◌⊎◌, ◌∙◌, ℕ, ◌%◌, ◌^◌, ◌≤◌, Bool, true, false, List, [], ◌∷◌, ◌++◌, Option, Some, None, Result, Ok, Err, refl, sym, ap, subst, inl, inr, arith}
+use Rattle.std.proofs.Common.{◌≡◌, ◌∙◌, ℕ, ◌%◌, ◌^◌, ◌≤◌, Bool, true, List, [], ◌∷◌, ◌++◌, Option, Some, None, Result, Ok, Err, refl, sym, ap, subst, inl, inr}
 use Rattle.std.specs.Prelude.{IfOk, IfSome}
 use Rattle.rp_apply_command.proofs.Ended.{finished, is_commit}
 use Rattle.rp_apply_command.proofs.Goals.{settled_ok}
 use Rattle.rp_apply_command.proofs.Moments.{leaves_all}
 use Rattle.rp_apply_command.proofs.Runs.{made_none, made_sync}
-use Rattle.rp_apply_command.specs.Applies.{CarriesOut, EndsHere, IsCommitRefusal, Opens, Outcome, PlanFits}
-use Rattle.rp_apply_command.specs.Ends.{AreRead, IsBefore, IsBehind, IsBetween, LeavesAll}
+use Rattle.rp_apply_command.specs.Applies.{CarriesOut, EndsHere, Opens, Outcome, PlanFits}
+use Rattle.rp_apply_command.specs.Ends.{AreRead, IsBefore, IsBetween, LeavesAll}
 use Rattle.rp_base.specs.Geometry.{IsSector}
 use Rattle.rp_base.specs.declared.plan.Plan.{Plan}
-use Rattle.rp_base.specs.declared.seen.Seen.{Seen}
-use Rattle.rp_defs.specs.declared.definition.Definition.{Definition}
 use Rattle.rp_defs.specs.declared.definition.Definitions.{Definitions}
 use Rattle.rp_disk.specs.Made.{dones}
 use Rattle.rp_disk.specs.Runs.{MadeFirst}
@@ -20,15 +18,14 @@ use Rattle.rp_disk.proofs.Runs.{made_first}
 use Rattle.rp_io.specs.Files.{Tree}
 use Rattle.rp_io.specs.declared.stored.Stored.{Stored}
 use Rattle.rp_outcome.specs.Device.{Device}
-use Rattle.rp_outcome.specs.Output.{Output, Finishes, Refuses}
+use Rattle.rp_outcome.specs.Output.{Output, Refuses}
 use Rattle.rp_outcome.specs.Refusals.{Refusal, folder_refusal, memory_refusal}
 use Rattle.rp_outcome.specs.Store.{Store}
-use Rattle.rp_planned.specs.declared.planned.Planned.{Planned}
 use Rattle.rp_planned.specs.declared.request.Request.{Request}
 use Rattle.rp_reading.specs.Reading.{IsReadingRefusal, ReadsDefinitions, definitions_in}
 use Rattle.rp_reading.specs.Stages.{Settles}
 use Rattle.rp_reset_command.proofs.Refused.{IsRefused, none_renewed, only_read}
-use Rattle.rp_reset_command.specs.Applies.{AppliesBehind, AppliesOpened, AppliesPlanned, AppliesReset, CarriesBoth, CarriesRenewal, GoesOn, TellsApplied}
+use Rattle.rp_reset_command.specs.Applies.{AppliesBehind, AppliesOpened, AppliesPlanned, AppliesReset, CarriesRenewal, GoesOn, TellsApplied}
 use Rattle.rp_reset_command.specs.Renewing.{RenewsImage, with_reset}
 use Rattle.rp_reset_command.specs.Reports.{renewal_report}
 use Rattle.rp_reset_command.specs.declared.renewal.Renewal.{Renewal}

@@ -1,6 +1,5 @@
 -- What a run of `apply` with a factory reset made of an image, by its exit status.
-use Rattle.std.specs.Prelude.{ℕ, ◌≡◌, List, Bool, true, Option, Some, None}
-use Rattle.rp_apply_command.specs.Applies.{IsCommitRefusal}
+use Rattle.std.specs.Prelude.{ℕ, List, Bool, true, Option, Some, None}
 use Rattle.rp_apply_command.specs.Ends.{AreRead, CarriesAll, CarriesSome, IsBefore, IsBehind, IsBetween, LeavesAll}
 use Rattle.rp_base.specs.declared.plan.Plan.{Plan}
 use Rattle.rp_defs.specs.declared.definition.Definition.{Definition}
@@ -10,7 +9,7 @@ use Rattle.rp_io.specs.Files.{Tree}
 use Rattle.rp_io.specs.declared.stored.Stored.{Stored}
 use Rattle.rp_outcome.specs.Device.{Device}
 use Rattle.rp_outcome.specs.Output.{Output, Finishes, Refuses}
-use Rattle.rp_outcome.specs.Refusals.{Refusal, disk_refusal, source_refusal}
+use Rattle.rp_outcome.specs.Refusals.{Refusal}
 use Rattle.rp_outcome.specs.Store.{Store}
 use Rattle.rp_planned.specs.declared.request.Request.{Request}
 use Rattle.rp_reset_command.specs.Reports.{renewal_report}

@@ -1,4 +1,4 @@
-use Rattle.std.proofs.Common.{◌≡◌, Option, Bool, true, inr, rules, subst, sym}
+use Rattle.std.proofs.Common.{◌≡◌, Option, true, inr, rules, subst, sym}
 use Rattle.rp_apply.specs.Ready.{IsReadyFor}
 use Rattle.rp_base.specs.declared.plan.Plan.{Plan}
 use Rattle.rp_outcome.specs.Device.{device}

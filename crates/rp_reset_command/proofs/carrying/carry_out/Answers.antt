@@ -1,4 +1,4 @@
-use Rattle.std.proofs.Common.{Ok, Err, subst}
+use Rattle.std.proofs.Common.{subst}
 use Rattle.rp_outcome.specs.Device.{device}
 use Rattle.rp_outcome.specs.Store.{store}
 use Rattle.rp_apply_command.proofs.Carried.{carries}
