@@ -1,0 +1,4 @@
+pub mod Alike
+pub mod Goals
+pub mod Carried
+pub mod Public
