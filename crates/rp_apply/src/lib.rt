@@ -10,6 +10,3 @@ pub use carrying::{Done, commit};
 pub use numbers::plan_fits;
 pub use ready::{Ready, prepare};
 pub use rp_step::ApplyFault;
-
-#[cfg(test)]
-mod tests;

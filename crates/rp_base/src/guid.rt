@@ -40,28 +40,3 @@ fn turned(bytes: [u8; 16]) -> [u8; 16]
         b[14], b[15],
     ]
 }
-
-#[cfg(test)]
-mod tests {
-    use crate::Guid;
-    use std::test::Fail;
-
-    // The type of an EFI system partition, c12a7328-f81f-11d2-ba4b-00a0c93ec93b, and its bytes on disk.
-    const ESP: Guid = Guid([
-        0xc1, 0x2a, 0x73, 0x28, 0xf8, 0x1f, 0x11, 0xd2, 0xba, 0x4b, 0x00, 0xa0, 0xc9, 0x3e, 0xc9,
-        0x3b,
-    ]);
-
-    const ESP_ON_DISK: [u8; 16] = [
-        0x28, 0x73, 0x2a, 0xc1, 0x1f, 0xf8, 0xd2, 0x11, 0xba, 0x4b, 0x00, 0xa0, 0xc9, 0x3e, 0xc9,
-        0x3b,
-    ];
-
-    #[test]
-    fn the_esp_type_on_disk(rt: HostRuntime) -> Result<(), Fail> {
-        assert_eq!(rt; ESP.to_disk(), ESP_ON_DISK);
-        assert_eq!(rt; Guid::from_disk(ESP_ON_DISK), ESP);
-        assert!(rt; !ESP.is_zero());
-        Ok(())
-    }
-}

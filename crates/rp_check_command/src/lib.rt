@@ -4,8 +4,6 @@
 mod command;
 mod law;
 mod printing;
-#[cfg(test)]
-mod tests;
 
 pub use command::check;
 pub use law::check_by_status;

@@ -50,13 +50,16 @@ pub fn run<D: Disk, F: Folders, S: Sources, K: Sink>(
     sources: &mut S,
     out: &mut K,
 ) -> u8
+    // The status is 2 exactly where the words aren't canonical.
     ensures words { (result ≡ 2) ↔ IsErr (line_of (map string_bytes words.now)) }
+    // Where they aren't, `error 2 words` is printed, and nothing is asked of folders, disk and sources.
     ensures refused { IsErr (line_of (map string_bytes words.now))
         → Refuses (output K.told K.faults out.old) (output K.told K.faults out.new) words_refusal result
         × AreUnasked
         (store F.told F.faults F.strays folders.old) (store F.told F.faults F.strays folders.new)
         (device D.first D.calls D.faults D.strays disk.old) (device D.first D.calls D.faults D.strays disk.new)
         (store S.told S.faults S.strays sources.old) (store S.told S.faults S.strays sources.new) }
+    // `show` reads the table and prints it, or the line of the first refusal; folders and sources aren't asked.
     ensures show { IfOk (line_of (map string_bytes words.now)) (λ line. line.command ≡ Command.Show
         → Shows line.sector line.json
         (device D.first D.calls D.faults D.strays disk.old) (device D.first D.calls D.faults D.strays disk.new)
@@ -64,36 +67,44 @@ pub fn run<D: Disk, F: Folders, S: Sources, K: Sink>(
         × AreAsBefore
         (store F.told F.faults F.strays folders.old) (store F.told F.faults F.strays folders.new)
         (store S.told S.faults S.strays sources.old) (store S.told S.faults S.strays sources.new)) }
+    // `plan` without a factory reset reads definitions, image and sources, and prints what is to become of the image, or the line of the first
+    // refusal.
     ensures plan { IfOk (line_of (map string_bytes words.now)) (λ line. line.command ≡ Command.Plan → line.factory_reset ≡ false
         → PlansAsked (request_of_line line) line.json (paths_of (text_in Opt.Definitions (map string_bytes words.now)))
         (store F.told F.faults F.strays folders.old) (store F.told F.faults F.strays folders.new)
         (device D.first D.calls D.faults D.strays disk.old) (device D.first D.calls D.faults D.strays disk.new)
         (store S.told S.faults S.strays sources.old) (store S.told S.faults S.strays sources.new)
         (output K.told K.faults out.old) (output K.told K.faults out.new) result) }
+    // With a factory reset `plan` plans that first and asks the sources over what it leaves, and prints the slots that are taken out too.
     ensures plan_reset { IfOk (line_of (map string_bytes words.now)) (λ line. line.command ≡ Command.Plan → line.factory_reset ≡ true
         → PlansResetAsked (request_of_line line) line.json (paths_of (text_in Opt.Definitions (map string_bytes words.now)))
         (store F.told F.faults F.strays folders.old) (store F.told F.faults F.strays folders.new)
         (device D.first D.calls D.faults D.strays disk.old) (device D.first D.calls D.faults D.strays disk.new)
         (store S.told S.faults S.strays sources.old) (store S.told S.faults S.strays sources.new)
         (output K.told K.faults out.old) (output K.told K.faults out.new) result) }
+    // `apply` without a factory reset reads definitions, syncs the disk, plans as `plan` does, takes all memory, carries the plan out by the
+    // calls of its steps, and prints it.
     ensures apply { IfOk (line_of (map string_bytes words.now)) (λ line. line.command ≡ Command.Apply → line.factory_reset ≡ false
         → AppliesAsked (request_of_line line) line.json (paths_of (text_in Opt.Definitions (map string_bytes words.now)))
         (store F.told F.faults F.strays folders.old) (store F.told F.faults F.strays folders.new)
         (device D.first D.calls D.faults D.strays disk.old) (device D.first D.calls D.faults D.strays disk.new)
         (store S.told S.faults S.strays sources.old) (store S.told S.faults S.strays sources.new)
         (output K.told K.faults out.old) (output K.told K.faults out.new) result) }
+    // With a factory reset `apply` takes the memory for both plans, carries out that of the reset and then the one behind it, and prints it.
     ensures apply_reset { IfOk (line_of (map string_bytes words.now)) (λ line. line.command ≡ Command.Apply → line.factory_reset ≡ true
         → AppliesResetAsked (request_of_line line) line.json (paths_of (text_in Opt.Definitions (map string_bytes words.now)))
         (store F.told F.faults F.strays folders.old) (store F.told F.faults F.strays folders.new)
         (device D.first D.calls D.faults D.strays disk.old) (device D.first D.calls D.faults D.strays disk.new)
         (store S.told S.faults S.strays sources.old) (store S.told S.faults S.strays sources.new)
         (output K.told K.faults out.old) (output K.told K.faults out.new) result) }
+    // `check` plans for the image's own length and prints the first difference from the image, or that there is none.
     ensures check { IfOk (line_of (map string_bytes words.now)) (λ line. line.command ≡ Command.Check
         → ChecksAsked line.seed line.arch line.sector (paths_of (text_in Opt.Definitions (map string_bytes words.now)))
         (store F.told F.faults F.strays folders.old) (store F.told F.faults F.strays folders.new)
         (device D.first D.calls D.faults D.strays disk.old) (device D.first D.calls D.faults D.strays disk.new)
         (store S.told S.faults S.strays sources.old) (store S.told S.faults S.strays sources.new)
         (output K.told K.faults out.old) (output K.told K.faults out.new) result) }
+    // `dissect` reads the policy, then the image, and prints the verdict on each designator, or which one is denied.
     ensures dissect { IfOk (line_of (map string_bytes words.now)) (λ line. line.command ≡ Command.Dissect
         → Dissects (text_in Opt.Policy (map string_bytes words.now)) line.arch line.sector line.json
         (device D.first D.calls D.faults D.strays disk.old) (device D.first D.calls D.faults D.strays disk.new)
@@ -101,6 +112,7 @@ pub fn run<D: Disk, F: Folders, S: Sources, K: Sink>(
         × AreAsBefore
         (store F.told F.faults F.strays folders.old) (store F.told F.faults F.strays folders.new)
         (store S.told S.faults S.strays sources.old) (store S.told S.faults S.strays sources.new)) }
+    // `policy` prints the policy's canonical text and the flags of each designator; nothing is asked of folders, disk and sources.
     ensures policy { IfOk (line_of (map string_bytes words.now)) (λ line. line.command ≡ Command.Policy
         → PrintsPolicy (text_in Opt.Policy (map string_bytes words.now))
         (output K.told K.faults out.old) (output K.told K.faults out.new) result
@@ -108,6 +120,7 @@ pub fn run<D: Disk, F: Folders, S: Sources, K: Sink>(
         (store F.told F.faults F.strays folders.old) (store F.told F.faults F.strays folders.new)
         (device D.first D.calls D.faults D.strays disk.old) (device D.first D.calls D.faults D.strays disk.new)
         (store S.told S.faults S.strays sources.old) (store S.told S.faults S.strays sources.new)) }
+    // `compare` prints whether one policy allows what the other denies, and what; nothing is asked of folders, disk and sources.
     ensures compare { IfOk (line_of (map string_bytes words.now)) (λ line. line.command ≡ Command.Compare
         → Compares (text_in Opt.Policy (map string_bytes words.now)) (text_in Opt.Against (map string_bytes words.now))
         (output K.told K.faults out.old) (output K.told K.faults out.new) result
@@ -116,14 +129,15 @@ pub fn run<D: Disk, F: Folders, S: Sources, K: Sink>(
         (device D.first D.calls D.faults D.strays disk.old) (device D.first D.calls D.faults D.strays disk.new)
         (store S.told S.faults S.strays sources.old) (store S.told S.faults S.strays sources.new)) }
 
-    // What `apply` promises. Where it answers 0, the image's table is the goal of its old table and the definitions, every old
+    // What `apply` promises: where it answers 0, and at 9, the image's table is the goal of its old table and the definitions, every old
     // partition keeps its place and bytes, new ones hold their contents.
     ensures applied { IfOk (line_of (map string_bytes words.now)) (λ line. line.command ≡ Command.Apply → line.factory_reset ≡ false → IsDone result
         → IsApplied (request_of_line line) (paths_of (text_in Opt.Definitions (map string_bytes words.now)))
         (store F.told F.faults F.strays folders.old)
         (device D.first D.calls D.faults D.strays disk.old) (device D.first D.calls D.faults D.strays disk.new)
         (store S.told S.faults S.strays sources.old)) }
-    // With a factory reset it is the goal of its reset table: the old one without the rows of definitions that say so.
+    // With a factory reset, where `apply` answers 0, and at 9, the image's table is the goal of its reset table and the definitions, every
+    // partition of the reset table keeps its place and bytes, and new ones hold their contents.
     ensures renewed { IfOk (line_of (map string_bytes words.now)) (λ line. line.command ≡ Command.Apply → line.factory_reset ≡ true → IsDone result
         → IsRenewed (request_of_line line) (paths_of (text_in Opt.Definitions (map string_bytes words.now)))
         (store F.told F.faults F.strays folders.old)
@@ -140,7 +154,7 @@ pub fn run<D: Disk, F: Folders, S: Sources, K: Sink>(
         (store F.told F.faults F.strays folders.old)
         (device D.first D.calls D.faults D.strays disk.old) (device D.first D.calls D.faults D.strays disk.new)
         (store S.told S.faults S.strays sources.old)) }
-    // With a factory reset the reset table too.
+    // Stopped at any moment of a factory reset, the image shows the old table, the reset table or the goal with all that.
     ensures any_moment_of_reset { IfOk (line_of (map string_bytes words.now)) (λ line. line.command ≡ Command.Apply → line.factory_reset ≡ true
         → IsRenewedSafely (request_of_line line) (paths_of (text_in Opt.Definitions (map string_bytes words.now)))
         (store F.told F.faults F.strays folders.old)
@@ -151,12 +165,15 @@ pub fn run<D: Disk, F: Folders, S: Sources, K: Sink>(
         → LeavesAll
         (device D.first D.calls D.faults D.strays disk.old) (device D.first D.calls D.faults D.strays disk.new)) }
 
-    // Of every other command: no call may change the disk. Of all: a failure has its status.
+    // Every command but `apply` only reads: no call may change the disk.
     ensures only_read { IfOk (line_of (map string_bytes words.now)) (λ line. line.command ≢ Command.Apply) → IsOnlyRead
         (device D.first D.calls D.faults D.strays disk.old) (device D.first D.calls D.faults D.strays disk.new) }
+    // Status 7 comes only where the disk counted a failed call, and at each other status it counted none; 9 comes only where the sink
+    // counted one, and at 0 it counted none.
     ensures causes { HasCauses
         (device D.first D.calls D.faults D.strays disk.old) (device D.first D.calls D.faults D.strays disk.new)
         (output K.told K.faults out.old) (output K.told K.faults out.new) result }
+    // Status 8 comes only where the folders or the sources counted a failed call, and its line says which; at 0 neither counted one.
     ensures files { HasFileCauses
         (store F.told F.faults F.strays folders.old) (store F.told F.faults F.strays folders.new)
         (store S.told S.faults S.strays sources.old) (store S.told S.faults S.strays sources.new)

@@ -227,6 +227,3 @@ impl<F: Read + Write + Seek + OpenFile> Disk for FileDisk<F> {
         counted(&mut self.faults, answer)
     }
 }
-
-#[cfg(test)]
-mod tests;

@@ -316,6 +316,3 @@ fn is_write(call: &Call) -> bool
 {
     matches!(call, Call::Write { .. })
 }
-
-#[cfg(test)]
-mod tests;

@@ -3,8 +3,6 @@
 
 mod command;
 mod law;
-#[cfg(test)]
-mod tests;
 
 pub use command::dissect;
 pub use law::dissect_by_status;

@@ -9,6 +9,3 @@ mod zeros;
 pub use copy::copy_source;
 pub use fault::FillFault;
 pub use zeros::write_zeros;
-
-#[cfg(test)]
-mod tests;

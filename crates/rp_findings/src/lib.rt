@@ -2,7 +2,5 @@
 #![tactic(auto)]
 
 mod policies;
-#[cfg(test)]
-mod tests;
 
 pub use policies::{beyond_text, policy_text};

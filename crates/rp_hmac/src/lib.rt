@@ -84,6 +84,3 @@ fn stamp(code: &[u8; 32]) -> [u8; 16]
     id[8] = 0x80 + id[8] % 64;
     id
 }
-
-#[cfg(test)]
-mod tests;

@@ -7,6 +7,3 @@ mod rounds;
 mod word;
 
 pub use digest::{digest_blocks, digest4};
-
-#[cfg(test)]
-mod tests;

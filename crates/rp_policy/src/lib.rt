@@ -15,6 +15,3 @@ pub use names::DESIGNATORS;
 pub use policy::{Flags, Policy, PolicyFault, PolicyKind};
 pub use reading::parse;
 pub use writing::{push_flags, write};
-
-#[cfg(test)]
-mod tests;

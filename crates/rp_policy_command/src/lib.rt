@@ -3,8 +3,6 @@
 
 mod commands;
 mod law;
-#[cfg(test)]
-mod tests;
 
 pub use commands::{compare, policy};
 pub use law::{compare_by_status, policy_by_status};

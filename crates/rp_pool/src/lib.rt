@@ -5,6 +5,3 @@ pub mod law;
 mod pool;
 
 pub use pool::{Lease, Pool};
-
-#[cfg(test)]
-mod tests;

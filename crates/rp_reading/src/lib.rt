@@ -2,7 +2,5 @@
 #![tactic(auto)]
 
 mod read;
-#[cfg(test)]
-mod tests;
 
 pub use read::{Unread, read_definitions, unread_refusal};

@@ -2,7 +2,11 @@
 #![tactic(auto)]
 
 #[cfg(test)]
+mod base;
+#[cfg(test)]
 mod gpt;
+#[cfg(test)]
+mod guid;
 #[cfg(test)]
 mod report;
 #[cfg(test)]

@@ -6,6 +6,8 @@ mod definitions;
 #[cfg(test)]
 mod ini;
 #[cfg(test)]
+mod loader;
+#[cfg(test)]
 mod numbers;
 #[cfg(test)]
 mod types;

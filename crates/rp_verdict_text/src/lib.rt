@@ -3,7 +3,5 @@
 
 mod json;
 mod lines;
-#[cfg(test)]
-mod tests;
 
 pub use lines::verdict_text;

@@ -7,8 +7,6 @@ mod out;
 mod shape;
 mod sources;
 mod superblock;
-#[cfg(test)]
-mod tests;
 mod tree;
 
 pub use builder::Builder;
