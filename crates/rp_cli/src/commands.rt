@@ -67,30 +67,29 @@ pub fn run<D: Disk, F: Folders, S: Sources, K: Sink>(
         × AreAsBefore
         (store F.told F.faults F.strays folders.old) (store F.told F.faults F.strays folders.new)
         (store S.told S.faults S.strays sources.old) (store S.told S.faults S.strays sources.new)) }
-    // `plan` without a factory reset reads definitions, image and sources, and prints what is to become of the image, or the line of the first
-    // refusal.
+    // `plan` reads definitions, image and sources, and prints what is to become of the image, or the line of the first refusal.
     ensures plan { IfOk (line_of (map string_bytes words.now)) (λ line. line.command ≡ Command.Plan → line.factory_reset ≡ false
         → PlansAsked (request_of_line line) line.json (paths_of (text_in Opt.Definitions (map string_bytes words.now)))
         (store F.told F.faults F.strays folders.old) (store F.told F.faults F.strays folders.new)
         (device D.first D.calls D.faults D.strays disk.old) (device D.first D.calls D.faults D.strays disk.new)
         (store S.told S.faults S.strays sources.old) (store S.told S.faults S.strays sources.new)
         (output K.told K.faults out.old) (output K.told K.faults out.new) result) }
-    // With a factory reset `plan` plans that first and asks the sources over what it leaves, and prints the slots that are taken out too.
+    // With `--factory-reset=on` it plans to take rows out of the table first, and then plans for what that leaves.
     ensures plan_reset { IfOk (line_of (map string_bytes words.now)) (λ line. line.command ≡ Command.Plan → line.factory_reset ≡ true
         → PlansResetAsked (request_of_line line) line.json (paths_of (text_in Opt.Definitions (map string_bytes words.now)))
         (store F.told F.faults F.strays folders.old) (store F.told F.faults F.strays folders.new)
         (device D.first D.calls D.faults D.strays disk.old) (device D.first D.calls D.faults D.strays disk.new)
         (store S.told S.faults S.strays sources.old) (store S.told S.faults S.strays sources.new)
         (output K.told K.faults out.old) (output K.told K.faults out.new) result) }
-    // `apply` without a factory reset reads definitions, syncs the disk, plans as `plan` does, takes all memory, carries the plan out by the
-    // calls of its steps, and prints it.
+    // `apply` reads definitions, syncs the disk, plans as `plan` does, takes all memory, carries the plan out by the calls of its steps, and
+    // prints it.
     ensures apply { IfOk (line_of (map string_bytes words.now)) (λ line. line.command ≡ Command.Apply → line.factory_reset ≡ false
         → AppliesAsked (request_of_line line) line.json (paths_of (text_in Opt.Definitions (map string_bytes words.now)))
         (store F.told F.faults F.strays folders.old) (store F.told F.faults F.strays folders.new)
         (device D.first D.calls D.faults D.strays disk.old) (device D.first D.calls D.faults D.strays disk.new)
         (store S.told S.faults S.strays sources.old) (store S.told S.faults S.strays sources.new)
         (output K.told K.faults out.old) (output K.told K.faults out.new) result) }
-    // With a factory reset `apply` takes the memory for both plans, carries out that of the reset and then the one behind it, and prints it.
+    // With `--factory-reset=on` both plans are made and all memory is taken before the first write, and then the calls of both are made.
     ensures apply_reset { IfOk (line_of (map string_bytes words.now)) (λ line. line.command ≡ Command.Apply → line.factory_reset ≡ true
         → AppliesResetAsked (request_of_line line) line.json (paths_of (text_in Opt.Definitions (map string_bytes words.now)))
         (store F.told F.faults F.strays folders.old) (store F.told F.faults F.strays folders.new)
@@ -136,8 +135,8 @@ pub fn run<D: Disk, F: Folders, S: Sources, K: Sink>(
         (store F.told F.faults F.strays folders.old)
         (device D.first D.calls D.faults D.strays disk.old) (device D.first D.calls D.faults D.strays disk.new)
         (store S.told S.faults S.strays sources.old)) }
-    // With a factory reset, where `apply` answers 0, and at 9, the image's table is the goal of its reset table and the definitions, every
-    // partition of the reset table keeps its place and bytes, and new ones hold their contents.
+    // With a factory reset its table is the goal of its reset table, which is the old one without the rows of definitions that say so,
+    // and every partition of that keeps its place and bytes.
     ensures renewed { IfOk (line_of (map string_bytes words.now)) (λ line. line.command ≡ Command.Apply → line.factory_reset ≡ true → IsDone result
         → IsRenewed (request_of_line line) (paths_of (text_in Opt.Definitions (map string_bytes words.now)))
         (store F.told F.faults F.strays folders.old)
@@ -154,7 +153,7 @@ pub fn run<D: Disk, F: Folders, S: Sources, K: Sink>(
         (store F.told F.faults F.strays folders.old)
         (device D.first D.calls D.faults D.strays disk.old) (device D.first D.calls D.faults D.strays disk.new)
         (store S.told S.faults S.strays sources.old)) }
-    // Stopped at any moment of a factory reset, the image shows the old table, the reset table or the goal with all that.
+    // Stopped at any moment of a factory reset, it shows the old, the reset or the goal table with all that.
     ensures any_moment_of_reset { IfOk (line_of (map string_bytes words.now)) (λ line. line.command ≡ Command.Apply → line.factory_reset ≡ true
         → IsRenewedSafely (request_of_line line) (paths_of (text_in Opt.Definitions (map string_bytes words.now)))
         (store F.told F.faults F.strays folders.old)

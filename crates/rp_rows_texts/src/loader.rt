@@ -1,6 +1,6 @@
 use rp_base::{List, Text};
 use rp_files::{LoadFault, load};
-use rp_io::{MemFolders, Stored};
+use rp_io::{Folders, MemFolders, Stored};
 use std::fmt::Write;
 use std::test::Fail;
 

@@ -1,3 +1,4 @@
+use rp_base::Failed;
 use rp_disk::{Disk, FileDisk};
 use std::fs;
 use std::test::Fail;

@@ -1,4 +1,5 @@
-use rp_hmac::hmac;
+use rp_base::Guid;
+use rp_hmac::{derive, hmac};
 use std::test::Fail;
 
 // RFC 4231, cases 1, 2, 3 and 4: those whose keys fit a block and whose codes are whole.

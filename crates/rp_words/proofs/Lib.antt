@@ -1,3 +1,4 @@
+pub mod Built
 mod Commands
 mod Computed
 mod Cutting
