@@ -39,7 +39,7 @@ is_reading refusal (inr (inl failed)) = inr (inr (inl (ap (λ (r : Refusal). r.s
 is_reading refusal (inr (inr want)) = inl (inr (inr (inr (ap (λ (r : Refusal). r.status) want))))
 
 -- a plan that was broken off has the refusal of a plan
-broken_status : (definitions : Definitions) (renewal : Renewal) (o : Option Plan) (disk later : Device) (sources drained : Store (List Stored))
+pub broken_status : (definitions : Definitions) (renewal : Renewal) (o : Option Plan) (disk later : Device) (sources drained : Store (List Stored))
     (calls : List Call) (refusal : Refusal) → CarriesRenewal definitions renewal o disk later sources drained calls (Err refusal)
     → IsBetween refusal.status
 broken_status definitions renewal None disk later sources drained calls refusal carries = is_commit renewal.planned refusal carries.refusal

@@ -2,3 +2,4 @@ pub mod Carried
 pub mod Causes
 pub mod Ended
 pub mod Read
+pub mod Told

@@ -1,6 +1,6 @@
 //! What `plan` and `apply` with a factory reset promise.
 
-ghost use Rattle.std.specs.Prelude.{◌≡◌, ◌≤◌, ◌%◌, ◌^◌, ℕ, Bool, List};
+ghost use Rattle.std.specs.Prelude.{◌≡◌, ◌≤◌, ◌%◌, ◌^◌, ℕ, Bool, List, false, true};
 ghost use Rattle.rp_base.specs.Geometry.{IsSector};
 ghost use Rattle.rp_io.specs.Files.{Tree};
 ghost use Rattle.rp_io.specs.declared.stored.Stored.{Stored};
@@ -12,6 +12,7 @@ ghost use Rattle.rp_reset_command.specs.Applies.{AppliesReset};
 ghost use Rattle.rp_reset_command.specs.Plans.{PlansReset};
 ghost use Rattle.rp_reset_promise.specs.Causes.{HasResetCauses};
 ghost use Rattle.rp_reset_promise.specs.Ends.{ResetEnds};
+ghost use Rattle.rp_reset_promise.specs.Told.{AnswersReset};
 
 /// What becomes of the image at each status, and what a stop at any moment of the run leaves.
 pub fn apply_reset_ends()
@@ -39,4 +40,17 @@ pub fn resets_have_causes()
         (sources drained : Store (List Stored)) (out after : Output) (status : ℕ)
         → AppliesReset request json dirs folders read disk later sources drained out after status
         → HasResetCauses folders read disk later sources drained out after status }
+{}
+
+/// What is printed where folders, disk and sources tell: at 3, 4 and 5 the line of the first refusal of what they tell, which has that
+/// status; at 0 and 9 the text of what is planned by them, whole or in part.
+pub fn resets_answer_as_told()
+    ensures plan { (request : Asked) (json : Bool) (dirs : List (List ℕ)) (folders read : Store Tree) (disk later : Device)
+        (sources drained : Store (List Stored)) (out after : Output) (status : ℕ)
+        → PlansReset request json dirs folders read disk later sources drained out after status
+        → AnswersReset request json dirs folders disk sources out after status false }
+    ensures apply { (request : Asked) (json : Bool) (dirs : List (List ℕ)) (folders read : Store Tree) (disk later : Device)
+        (sources drained : Store (List Stored)) (out after : Output) (status : ℕ)
+        → AppliesReset request json dirs folders read disk later sources drained out after status
+        → AnswersReset request json dirs folders disk sources out after status true }
 {}

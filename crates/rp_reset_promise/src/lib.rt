@@ -3,4 +3,6 @@
 
 mod law;
 
-pub use law::{apply_reset_ends, plan_reset_reads_alone, resets_have_causes};
+pub use law::{
+    apply_reset_ends, plan_reset_reads_alone, resets_answer_as_told, resets_have_causes,
+};
