@@ -1,5 +1,5 @@
 -- How a run of `apply` ends on the disk.
-use Rattle.std.proofs.Common.{◌≡◌, ◌∙◌, ℕ, ◌%◌, ◌^◌, ◌≤◌, List, [], ◌∷◌, ◌++◌, Bool, true, Result, Ok, Err, refl, sym, ap, subst, inl, inr, arith}
+use Rattle.std.proofs.Common.{◌≡◌, ◌∙◌, ℕ, ◌%◌, ◌^◌, ◌≤◌, List, [], ◌∷◌, ◌++◌, Bool, true, None, Result, Ok, Err, refl, sym, ap, subst, inl, inr, arith}
 use Rattle.std.specs.Prelude.{All, IfOk, IfSome, Option, Some, None, length}
 use Rattle.rp_idle.specs.Idle.{IsIdle}
 use Rattle.rp_base.specs.Geometry.{IsSector}
@@ -193,9 +193,9 @@ module _ (request : Request) (json : Bool) (dirs : List (List ℕ)) (folders rea
       none : (steps planned.plan planned.seen ≡ []) × All (λ (note : Note). note.change ≡ Same) planned.plan.notes
       none = none_to_do request others.list disk later sources planned calls bytes all.some tells (idle_for others read_so) long
 
-      text : applied_report json others planned ≡ plan_report json planned.plan definitions 0 0 true
-      text = ap (λ (ss : List Step). plan_report json planned.plan others (length ss) (writes ss) true) none.0
-          ∙ ap (λ (d : Definitions). plan_report json planned.plan d 0 0 true) (sym (same_read others read_so))
+      text : applied_report json others planned ≡ plan_report json planned.plan definitions 0 0 true None
+      text = ap (λ (ss : List Step). plan_report json planned.plan others (length ss) (writes ss) true None) none.0
+          ∙ ap (λ (d : Definitions). plan_report json planned.plan d 0 0 true None) (sym (same_read others read_so))
 
       by_text : Finishes out after (applied_report json others planned) status → TellsUnchanged json definitions out after
       by_text (inl (e, printed)) = (planned.plan, none.1, subst (PrintsAll out after) text printed)

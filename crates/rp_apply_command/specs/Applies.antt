@@ -1,6 +1,6 @@
 -- What `apply` does, stage by stage: the definitions are read, the disk is synced, what is to become of the image is planned, all
 -- memory is taken, the plan is carried out, and it is told.
-use Rattle.std.specs.Prelude.{ℕ, ◌≡◌, ◌≢◌, ◌⊎◌, List, [], ◌∷◌, Any, Bool, true, length, Result, Ok, Err, IfOk, IfSome, IfErr}
+use Rattle.std.specs.Prelude.{ℕ, ◌≡◌, ◌≢◌, ◌⊎◌, List, [], ◌∷◌, Any, Bool, true, length, None, Result, Ok, Err, IfOk, IfSome, IfErr}
 use Rattle.rp_apply.specs.Called.{AreCallsFor}
 use Rattle.rp_apply.specs.Sourced.{paths_of}
 use Rattle.rp_step.specs.Sourced.{sources_in}
@@ -83,7 +83,7 @@ pub record CarriesOut (definitions : Definitions) (planned : Planned) (disk late
 abbrev pub applied_report : Bool → Definitions → Planned → List ℕ
 applied_report json definitions planned =
     let taken = steps planned.plan planned.seen in
-    plan_report json planned.plan definitions (length taken) (writes taken) true
+    plan_report json planned.plan definitions (length taken) (writes taken) true None
 
 -- a plan that was carried out is told, as far as the sink takes it; or the refusal is
 abbrev pub Tells : Bool → Definitions → Planned → Output → Output → ℕ → Outcome → Type 0

@@ -1,5 +1,5 @@
 -- What a run of `apply` made of an image, by its exit status, and what a stop at any moment might have left.
-use Rattle.std.specs.Prelude.{ℕ, ◌≡◌, ◌⊎◌, ◌++◌, List, [], ◌∷◌, All, Bool, true, IfSome, Ok}
+use Rattle.std.specs.Prelude.{ℕ, ◌≡◌, ◌⊎◌, ◌++◌, List, [], ◌∷◌, All, Bool, true, IfSome, None, Ok}
 use Rattle.rp_apply.specs.Sourced.{paths_of}
 use Rattle.rp_step.specs.Sourced.{sources_in}
 use Rattle.rp_base.specs.declared.plan.Change.TheVariants.{Same}
@@ -131,4 +131,4 @@ pub data Ends (request : Request) (json : Bool) (dirs : List (List ℕ)) (folder
 -- what was printed of a plan that changes nothing: no steps, no writes, and each row the same
 abbrev pub TellsUnchanged : Bool → Definitions → Output → Output → Type 0
 TellsUnchanged json definitions out after =
-    (plan : Plan) × All (λ note. note.change ≡ Same) plan.notes × PrintsAll out after (plan_report json plan definitions 0 0 true)
+    (plan : Plan) × All (λ note. note.change ≡ Same) plan.notes × PrintsAll out after (plan_report json plan definitions 0 0 true None)

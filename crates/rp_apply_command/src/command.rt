@@ -124,7 +124,7 @@ fn prepared(
     plan_fits(plan);
     let ready = prepare(alloc, plan, &planned.seen, definitions.list.as_slice())?;
     let (steps, writes) = (ready.steps(), ready.writes());
-    let text = plan_text(alloc, json, plan, definitions, steps, writes, true)?;
+    let text = plan_text(alloc, json, plan, definitions, steps, writes, true, None)?;
     Ok((ready, text))
 }
 

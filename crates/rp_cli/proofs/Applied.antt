@@ -1,5 +1,5 @@
 -- Each sentence of what `apply` promises of an image, by how a run of it ends.
-use Rattle.std.proofs.Common.{ℕ, ◌≡◌, ◌⊎◌, ◌%◌, ◌^◌, ◌≤◌, List, [], ◌∷◌, Bool, Option, Some, None, IfSome, Ok, refl, sym, ap, subst, inl, inr, arith}
+use Rattle.std.proofs.Common.{ℕ, ◌≡◌, ◌≤◌, List, [], ◌∷◌, Bool, Option, Some, None, IfSome, Ok, refl, sym, subst, inl, inr, arith}
 use Rattle.std.specs.Prelude.{length}
 use Rattle.rp_apply_command.proofs.Ended.{ends_idle, ends_so}
 use Rattle.rp_apply_command.proofs.Moments.{leaves_all}
@@ -27,7 +27,7 @@ use Rattle.rp_reading.specs.Reading.{definitions_in}
 use Rattle.rp_words.specs.Values.{IsSize}
 
 -- a status of a run that is done is none at which nothing was carried out, or not all
-done_before : {P : Type 0} (n : ℕ) → IsBefore n → IsDone n → P
+pub done_before : {P : Type 0} (n : ℕ) → IsBefore n → IsDone n → P
 done_before n (inl a) (inl b) = absurd (omega (arith, a, b))
 done_before n (inl a) (inr b) = absurd (omega (arith, a, b))
 done_before n (inr (inl a)) (inl b) = absurd (omega (arith, a, b))
@@ -37,7 +37,7 @@ done_before n (inr (inr (inl a))) (inr b) = absurd (omega (arith, a, b))
 done_before n (inr (inr (inr a))) (inl b) = absurd (omega (arith, a, b))
 done_before n (inr (inr (inr a))) (inr b) = absurd (omega (arith, a, b))
 
-done_between : {P : Type 0} (n : ℕ) → IsBetween n → IsDone n → P
+pub done_between : {P : Type 0} (n : ℕ) → IsBetween n → IsDone n → P
 done_between n (inl a) (inl b) = absurd (omega (arith, a, b))
 done_between n (inl a) (inr b) = absurd (omega (arith, a, b))
 done_between n (inr (inl a)) (inl b) = absurd (omega (arith, a, b))
@@ -46,7 +46,7 @@ done_between n (inr (inr a)) (inl b) = absurd (omega (arith, a, b))
 done_between n (inr (inr a)) (inr b) = absurd (omega (arith, a, b))
 
 -- nor is it between where it is a refusal before
-before_between : {P : Type 0} (n : ℕ) → IsBetween n → IsBefore n → P
+pub before_between : {P : Type 0} (n : ℕ) → IsBetween n → IsBefore n → P
 before_between n (inl a) (inl b) = absurd (omega (arith, a, b))
 before_between n (inl a) (inr (inl b)) = absurd (omega (arith, a, b))
 before_between n (inl a) (inr (inr (inl b))) = absurd (omega (arith, a, b))

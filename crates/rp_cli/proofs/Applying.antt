@@ -1,6 +1,6 @@
 -- What holds of every command, for `apply`: a failure has its status, and none is passed over where it is done.
-use Rattle.std.proofs.Common.{ℕ, ◌≡◌, ◌⊎◌, ◌≤◌, List, Bool, Option, Some, None, Result, Ok, Err, refl, sym, ◌∙◌, ap, subst, inl, inr, arith}
-use Rattle.rp_apply_command.specs.Applies.{Applies, AppliesBehind, AppliesOpened, AppliesPlanned, CarriesOut, IsCommitRefusal, Opens, Outcome, Tells, applied_report}
+use Rattle.std.proofs.Common.{ℕ, ◌≡◌, ◌⊎◌, ◌≤◌, List, Bool, None, Result, Ok, Err, refl, sym, ◌∙◌, ap, subst, inl, inr, arith}
+use Rattle.rp_apply_command.specs.Applies.{AppliesBehind, AppliesOpened, AppliesPlanned, CarriesOut, IsCommitRefusal, Opens, Outcome, Tells, applied_report}
 use Rattle.rp_base.specs.Faults.{Rose}
 use Rattle.rp_cli.proofs.Promised.{clash, plan_words}
 use Rattle.rp_cli.specs.Applied.{AppliesAsked}
@@ -11,8 +11,8 @@ use Rattle.rp_io.specs.Files.{Tree}
 use Rattle.rp_io.specs.declared.stored.Stored.{Stored}
 use Rattle.rp_outcome.specs.Causes.{HasCauses}
 use Rattle.rp_outcome.specs.Device.{Device}
-use Rattle.rp_outcome.specs.Output.{Output, Finishes, Prints, Refuses}
-use Rattle.rp_outcome.specs.Refusals.{Refusal, disk_refusal, line_of, memory_refusal, source_refusal}
+use Rattle.rp_outcome.specs.Output.{Output, Finishes, Prints}
+use Rattle.rp_outcome.specs.Refusals.{Refusal, disk_refusal, line_of, source_refusal}
 use Rattle.rp_outcome.specs.Store.{Store}
 use Rattle.rp_plan_command.proofs.Statuses.{by_status}
 use Rattle.rp_plan_command.specs.Plans.{Plans}

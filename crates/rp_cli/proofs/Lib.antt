@@ -2,3 +2,4 @@ pub mod Applied
 pub mod Applying
 pub mod Policies
 pub mod Promised
+pub mod Renewed

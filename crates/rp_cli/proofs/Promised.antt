@@ -8,7 +8,7 @@ use Rattle.rp_io.specs.declared.stored.Stored.{Stored}
 use Rattle.rp_outcome.specs.Causes.{HasCauses}
 use Rattle.rp_outcome.specs.Device.{Device, IsOnlyRead}
 use Rattle.rp_outcome.specs.Output.{Output, Refuses}
-use Rattle.rp_outcome.specs.Refusals.{memory_refusal, words_refusal}
+use Rattle.rp_outcome.specs.Refusals.{words_refusal}
 use Rattle.rp_outcome.specs.Store.{Store}
 use Rattle.rp_plan_command.proofs.Statuses.{by_status as plan_by_status}
 use Rattle.rp_planned.specs.Files.{HasFileCauses}
@@ -22,7 +22,7 @@ pub clash : {P : Type 0} (status a b : ℕ) → status ≡ a → status ≡ b �
 clash status a b e f differ = absurd (differ (sym e ∙ f))
 
 -- a disk that wasn't asked was read alone
-not_asked : (disk later : Device) → later ≡ disk → IsOnlyRead disk later
+pub not_asked : (disk later : Device) → later ≡ disk → IsOnlyRead disk later
 not_asked disk later same = subst (IsOnlyRead disk) (sym same) (record { first = refl; calls = refl; strays = unmoved disk.first }) where
   unmoved : (o : Option (List ℕ)) → IfSome o (λ _. disk.strays ≡ disk.strays)
   unmoved None = tt
@@ -52,7 +52,7 @@ words_files out after status folders sources refuses =
     unasked_files folders sources out after status (λ e. clash status 2 8 refuses.answers e (λ h. omega arith))
 
 -- nor does want of memory before anything is asked
-unasked_causes : (disk later : Device) (out after : Output) (status : ℕ) → later ≡ disk → status ≡ 10 → HasCauses disk later out after status
+pub unasked_causes : (disk later : Device) (out after : Output) (status : ℕ) → later ≡ disk → status ≡ 10 → HasCauses disk later out after status
 unasked_causes disk later out after status same ten = record {
   disk_failed = λ e. clash status 10 7 ten e (λ h. omega arith);
   disk_kept = inr (ap (λ (d : Device). d.faults) same);

@@ -1,3 +1,4 @@
 pub mod Asked
 pub mod Applied
 pub mod Holds
+pub mod Resetting

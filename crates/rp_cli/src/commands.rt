@@ -1,9 +1,10 @@
-ghost use Rattle.std.specs.Prelude.{◌≡◌, ◌≢◌, ◌↔◌, IfOk, IsErr, map, string_bytes};
+ghost use Rattle.std.specs.Prelude.{◌≡◌, ◌≢◌, ◌↔◌, IfOk, IsErr, false, map, string_bytes, true};
 ghost use Rattle.rp_apply_command.specs.Ends.{LeavesAll};
 ghost use Rattle.rp_base.specs.Geometry.{IsSector};
 ghost use Rattle.rp_cli.specs.Applied.{AppliesAsked, IsApplied, IsDone, IsRefusedBefore, IsSafeThroughout, WritesNothingIdle};
 ghost use Rattle.rp_cli.specs.Holds.{Holds};
 ghost use Rattle.rp_cli.specs.Asked.{AreAsBefore, AreUnasked, ChecksAsked, PlansAsked, request_of as request_of_line};
+ghost use Rattle.rp_cli.specs.Resetting.{AppliesResetAsked, IsRenewed, IsRenewedSafely, PlansResetAsked};
 ghost use Rattle.rp_dissect_command.specs.Dissects.{Dissects};
 ghost use Rattle.rp_outcome.specs.Causes.{HasCauses};
 ghost use Rattle.rp_outcome.specs.Device.{IsOnlyRead, device};
@@ -16,6 +17,7 @@ ghost use Rattle.rp_show.specs.Shows.{Shows};
 ghost use Rattle.rp_words.specs.Line.{line_of, text_in};
 ghost use Rattle.rp_words.specs.Values.{IsSize, paths_of};
 
+use crate::resetting::{apply_by_line, plan_by_line};
 use rp_apply_command::apply;
 use rp_base::Memory;
 use rp_check_command::check;
@@ -39,7 +41,7 @@ use std::alloc::Global;
 /// denies the image; 7 the disk failed; 8 the folders or the sources failed; 9 the sink failed once all else was done; 10 out
 /// of memory; 11 a source has changed since it was planned. A status but 0, 1, 9 and 10 prints its line `error STATUS ..`, or of
 /// a denial `denied ..`.
-#[tactic(auto, using(crate::proofs::Promised::plan_only_read, crate::proofs::Promised::plan_causes, crate::proofs::Promised::plan_files, crate::proofs::Promised::plan_words, crate::proofs::Promised::show_files, crate::proofs::Promised::words_files, crate::proofs::Policies::dissect_only_read, crate::proofs::Policies::dissect_causes, crate::proofs::Policies::dissect_files, crate::proofs::Policies::dissect_words, crate::proofs::Policies::policy_causes, crate::proofs::Policies::policy_files, crate::proofs::Policies::policy_words, crate::proofs::Policies::compare_causes, crate::proofs::Policies::compare_files, crate::proofs::Policies::compare_words))]
+#[tactic(auto, using(crate::proofs::Promised::show_files, crate::proofs::Promised::words_files, crate::proofs::Policies::dissect_only_read, crate::proofs::Policies::dissect_causes, crate::proofs::Policies::dissect_files, crate::proofs::Policies::dissect_words, crate::proofs::Policies::policy_causes, crate::proofs::Policies::policy_files, crate::proofs::Policies::policy_words, crate::proofs::Policies::compare_causes, crate::proofs::Policies::compare_files, crate::proofs::Policies::compare_words))]
 pub fn run<D: Disk, F: Folders, S: Sources, K: Sink>(
     alloc: Global,
     words: &[String],
@@ -62,14 +64,26 @@ pub fn run<D: Disk, F: Folders, S: Sources, K: Sink>(
         × AreAsBefore
         (store F.told F.faults F.strays folders.old) (store F.told F.faults F.strays folders.new)
         (store S.told S.faults S.strays sources.old) (store S.told S.faults S.strays sources.new)) }
-    ensures plan { IfOk (line_of (map string_bytes words.now)) (λ line. line.command ≡ Command.Plan
+    ensures plan { IfOk (line_of (map string_bytes words.now)) (λ line. line.command ≡ Command.Plan → line.factory_reset ≡ false
         → PlansAsked (request_of_line line) line.json (paths_of (text_in Opt.Definitions (map string_bytes words.now)))
         (store F.told F.faults F.strays folders.old) (store F.told F.faults F.strays folders.new)
         (device D.first D.calls D.faults D.strays disk.old) (device D.first D.calls D.faults D.strays disk.new)
         (store S.told S.faults S.strays sources.old) (store S.told S.faults S.strays sources.new)
         (output K.told K.faults out.old) (output K.told K.faults out.new) result) }
-    ensures apply { IfOk (line_of (map string_bytes words.now)) (λ line. line.command ≡ Command.Apply
+    ensures plan_reset { IfOk (line_of (map string_bytes words.now)) (λ line. line.command ≡ Command.Plan → line.factory_reset ≡ true
+        → PlansResetAsked (request_of_line line) line.json (paths_of (text_in Opt.Definitions (map string_bytes words.now)))
+        (store F.told F.faults F.strays folders.old) (store F.told F.faults F.strays folders.new)
+        (device D.first D.calls D.faults D.strays disk.old) (device D.first D.calls D.faults D.strays disk.new)
+        (store S.told S.faults S.strays sources.old) (store S.told S.faults S.strays sources.new)
+        (output K.told K.faults out.old) (output K.told K.faults out.new) result) }
+    ensures apply { IfOk (line_of (map string_bytes words.now)) (λ line. line.command ≡ Command.Apply → line.factory_reset ≡ false
         → AppliesAsked (request_of_line line) line.json (paths_of (text_in Opt.Definitions (map string_bytes words.now)))
+        (store F.told F.faults F.strays folders.old) (store F.told F.faults F.strays folders.new)
+        (device D.first D.calls D.faults D.strays disk.old) (device D.first D.calls D.faults D.strays disk.new)
+        (store S.told S.faults S.strays sources.old) (store S.told S.faults S.strays sources.new)
+        (output K.told K.faults out.old) (output K.told K.faults out.new) result) }
+    ensures apply_reset { IfOk (line_of (map string_bytes words.now)) (λ line. line.command ≡ Command.Apply → line.factory_reset ≡ true
+        → AppliesResetAsked (request_of_line line) line.json (paths_of (text_in Opt.Definitions (map string_bytes words.now)))
         (store F.told F.faults F.strays folders.old) (store F.told F.faults F.strays folders.new)
         (device D.first D.calls D.faults D.strays disk.old) (device D.first D.calls D.faults D.strays disk.new)
         (store S.told S.faults S.strays sources.old) (store S.told S.faults S.strays sources.new)
@@ -104,19 +118,31 @@ pub fn run<D: Disk, F: Folders, S: Sources, K: Sink>(
 
     // What `apply` promises. Where it answers 0, the image's table is the goal of its old table and the definitions, every old
     // partition keeps its place and bytes, new ones hold their contents.
-    ensures applied { IfOk (line_of (map string_bytes words.now)) (λ line. line.command ≡ Command.Apply → IsDone result
+    ensures applied { IfOk (line_of (map string_bytes words.now)) (λ line. line.command ≡ Command.Apply → line.factory_reset ≡ false → IsDone result
         → IsApplied (request_of_line line) (paths_of (text_in Opt.Definitions (map string_bytes words.now)))
         (store F.told F.faults F.strays folders.old)
         (device D.first D.calls D.faults D.strays disk.old) (device D.first D.calls D.faults D.strays disk.new)
         (store S.told S.faults S.strays sources.old)) }
-    // A second run writes nothing where none was dropped: such an image is idle.
-    ensures second_run { IfOk (line_of (map string_bytes words.now)) (λ line. line.command ≡ Command.Apply
+    // With a factory reset it is the goal of its reset table: the old one without the rows of definitions that say so.
+    ensures renewed { IfOk (line_of (map string_bytes words.now)) (λ line. line.command ≡ Command.Apply → line.factory_reset ≡ true → IsDone result
+        → IsRenewed (request_of_line line) (paths_of (text_in Opt.Definitions (map string_bytes words.now)))
+        (store F.told F.faults F.strays folders.old)
+        (device D.first D.calls D.faults D.strays disk.old) (device D.first D.calls D.faults D.strays disk.new)
+        (store S.told S.faults S.strays sources.old)) }
+    // A second run without reset writes nothing where none was dropped: such an image is idle.
+    ensures second_run { IfOk (line_of (map string_bytes words.now)) (λ line. line.command ≡ Command.Apply → line.factory_reset ≡ false
         → WritesNothingIdle (request_of_line line) (paths_of (text_in Opt.Definitions (map string_bytes words.now)))
         (store F.told F.faults F.strays folders.old)
         (device D.first D.calls D.faults D.strays disk.old) (device D.first D.calls D.faults D.strays disk.new)) }
     // Stopped at any moment, the image shows the old table or the goal with all that.
-    ensures any_moment { IfOk (line_of (map string_bytes words.now)) (λ line. line.command ≡ Command.Apply
+    ensures any_moment { IfOk (line_of (map string_bytes words.now)) (λ line. line.command ≡ Command.Apply → line.factory_reset ≡ false
         → IsSafeThroughout (request_of_line line) (paths_of (text_in Opt.Definitions (map string_bytes words.now)))
+        (store F.told F.faults F.strays folders.old)
+        (device D.first D.calls D.faults D.strays disk.old) (device D.first D.calls D.faults D.strays disk.new)
+        (store S.told S.faults S.strays sources.old)) }
+    // With a factory reset the reset table too.
+    ensures any_moment_of_reset { IfOk (line_of (map string_bytes words.now)) (λ line. line.command ≡ Command.Apply → line.factory_reset ≡ true
+        → IsRenewedSafely (request_of_line line) (paths_of (text_in Opt.Definitions (map string_bytes words.now)))
         (store F.told F.faults F.strays folders.old)
         (device D.first D.calls D.faults D.strays disk.old) (device D.first D.calls D.faults D.strays disk.new)
         (store S.told S.faults S.strays sources.old)) }
@@ -140,8 +166,8 @@ pub fn run<D: Disk, F: Folders, S: Sources, K: Sink>(
         Err(_) => refuse(out, &Refusal::words()),
         Ok(line) => match line.command {
             Command::Show => show(alloc, line.sector, line.json, disk, out),
-            Command::Plan => run_plan(alloc, line, words, disk, folders, sources, out),
-            Command::Apply => run_apply(alloc, line, words, disk, folders, sources, out),
+            Command::Plan => plan_by_line(alloc, line, words, disk, folders, sources, out),
+            Command::Apply => apply_by_line(alloc, line, words, disk, folders, sources, out),
             Command::Check => run_check(alloc, line, words, disk, folders, sources, out),
             Command::Dissect => run_dissect(alloc, line, words, disk, out),
             Command::Policy => run_policy(alloc, words, out),
@@ -152,7 +178,8 @@ pub fn run<D: Disk, F: Folders, S: Sources, K: Sink>(
     }
 }
 
-fn run_plan<D: Disk, F: Folders, S: Sources, K: Sink>(
+// `plan` without a factory reset.
+pub(crate) fn run_plan<D: Disk, F: Folders, S: Sources, K: Sink>(
     alloc: Global,
     line: Line,
     words: &[String],
@@ -185,7 +212,8 @@ fn run_plan<D: Disk, F: Folders, S: Sources, K: Sink>(
     )
 }
 
-fn run_apply<D: Disk, F: Folders, S: Sources, K: Sink>(
+// `apply` without a factory reset.
+pub(crate) fn run_apply<D: Disk, F: Folders, S: Sources, K: Sink>(
     alloc: Global,
     line: Line,
     words: &[String],
@@ -257,7 +285,7 @@ fn apply_asked<D: Disk, F: Folders, S: Sources, K: Sink>(
     )
 }
 
-fn request_of(line: Line) -> Request
+pub(crate) fn request_of(line: Line) -> Request
     ensures { result ≡ request_of_line line }
 {
     Request {

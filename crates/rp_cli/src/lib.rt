@@ -2,5 +2,6 @@
 #![tactic(auto)]
 
 mod commands;
+mod resetting;
 
 pub use commands::run;

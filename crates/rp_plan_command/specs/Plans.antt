@@ -1,5 +1,5 @@
 -- What `plan` does.
-use Rattle.std.specs.Prelude.{ℕ, ◌≡◌, ◌⊎◌, List, Bool, false, length, Result, Ok, Err}
+use Rattle.std.specs.Prelude.{ℕ, ◌≡◌, ◌⊎◌, List, Bool, false, length, None, Result, Ok, Err}
 use Rattle.rp_defs.specs.declared.definition.Definitions.{Definitions}
 use Rattle.rp_io.specs.Files.{Tree}
 use Rattle.rp_io.specs.declared.stored.Stored.{Stored}
@@ -19,7 +19,7 @@ use Rattle.rp_steps.specs.Writes.{writes}
 abbrev pub planned_report : Bool → Definitions → Planned → List ℕ
 planned_report json definitions planned =
     let taken = steps planned.plan planned.seen in
-    plan_report json planned.plan definitions (length taken) (writes taken) false
+    plan_report json planned.plan definitions (length taken) (writes taken) false None
 
 -- the answer is told: the plan's text, unless there was no memory for it, or the refusal
 abbrev pub Tells : Bool → Definitions → Output → Output → ℕ → Result Planned Refusal → Type 0

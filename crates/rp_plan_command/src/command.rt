@@ -99,6 +99,7 @@ fn tell<K: Sink>(
         count,
         writes,
         false,
+        None,
     ) {
         Ok(text) => finish(out, text.as_str()),
         Err(Memory) => refuse(out, &Refusal::memory()),

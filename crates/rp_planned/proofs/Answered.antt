@@ -20,7 +20,7 @@ use Rattle.rp_outcome.specs.Device.{Device, IsOnlyRead, history}
 use Rattle.rp_outcome.specs.Refusals.{Refusal, disk_refusal, repair_refusal, table_refusal}
 use Rattle.rp_outcome.specs.Store.{Store}
 use Rattle.rp_plan.specs.Goal.{goal}
-use Rattle.rp_planned.specs.Planning.{AsksSources, IsImageRefusal, PlansBy, PlansImage, PlansUnless, ReadsImage, must_repair, seen_of, target_of, with_seen}
+use Rattle.rp_planned.specs.Planning.{AsksSources, IsImageRefusal, PlansBy, PlansUnless, ReadsImage, seen_of, target_of, with_seen}
 use Rattle.rp_planned.specs.declared.planned.Planned.{Planned}
 use Rattle.rp_planned.specs.declared.request.Request.{Request}
 use Rattle.rp_reading.specs.Stages.{Settles, and_then, refused}
@@ -128,27 +128,6 @@ module _ (request : Request) (list : List Definition) (seen : Seen) (known : Lis
   unfolding told
   planned_err demand (inl same) = inl (ap told same)
   planned_err demand (inr want) = inr (ap told want)
-
-module _ (request : Request) (list : List Definition) (before now : Device) (sources drained : Store (List Stored)) where
-  -- nothing is planned for an image that is refused
-  pub image_err : (fault : TableFault) → IsOnlyRead before now
-      → IfSome (history before) (λ h. (◌≡◌ {A = Result Seen TableFault} (Err fault) (Err faults.Disk))
-      ⊎ Gives faults.Memory (accepted request.sector (held h) request.empty) (Err fault))
-      → (◌≡◌ {A = Result Seen TableFault} (Err fault) (Err faults.Disk) → Rose before.faults now.faults)
-      → (◌≡◌ {A = Result Seen TableFault} (Err fault) (Err faults.Disk)) ⊎ (now.faults ≡ before.faults)
-      → PlansImage request list before now sources sources (Err (table_refusal fault))
-  image_err fault only_read answer rose kept =
-      (Err (table_refusal fault), image_refused request.sector request.empty before now fault only_read answer rose kept, (refl, refl))
-
-  -- what is planned for an image that was seen
-  pub image_ok : (seen : Seen) (answer : Result Planned Refusal) → IsOnlyRead before now
-      → IfSome (history before) (λ h. (◌≡◌ {A = Result Seen TableFault} (Ok seen) (Err faults.Disk))
-      ⊎ Gives faults.Memory (accepted request.sector (held h) request.empty) (Ok seen))
-      → (◌≡◌ {A = Result Seen TableFault} (Ok seen) (Err faults.Disk)) ⊎ (now.faults ≡ before.faults) → IsSeen request.sector seen
-      → PlansUnless (must_repair request.size seen) request list seen sources drained answer
-      → PlansImage request list before now sources drained answer
-  image_ok seen answer only_read told kept is plans =
-      (Ok seen, image_seen request.sector request.empty before now seen only_read told kept is, plans)
 
 module _ (request : Request) (list : List Definition) (seen : Seen) (sources drained : Store (List Stored)) (repair : Bool) where
   -- the image has to be repaired first

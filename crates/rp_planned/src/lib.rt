@@ -4,5 +4,7 @@
 mod planned;
 mod request;
 
-pub use planned::{Planned, Unplanned, plan_image, unplanned_refusal};
+pub use planned::{
+    Planned, Unplanned, must_repair, plan_image, plan_seen, read_image, unplanned_refusal,
+};
 pub use request::Request;

@@ -4,8 +4,9 @@ ghost use Rattle.rp_base.specs.Plan.{IsWellFormed as IsPlan};
 ghost use Rattle.rp_defs.specs.WellFormed.{IsWellFormed};
 ghost use Rattle.rp_gpt.specs.Accepted.{IsSeen};
 ghost use Rattle.rp_outcome.specs.Device.{device};
+ghost use Rattle.rp_outcome.specs.Refusals.{table_refusal as table_refusal_of};
 ghost use Rattle.rp_outcome.specs.Store.{store};
-ghost use Rattle.rp_planned.specs.Planning.{AsksSources, PlansBy, PlansImage, PlansUnless, must_repair as must_repair_first, target_of as target_for, unplanned_refusal as refusal_of};
+ghost use Rattle.rp_planned.specs.Planning.{AsksSources, PlansBy, PlansImage, PlansUnless, ReadsImage, must_repair as must_repair_first, target_of as target_for, unplanned_refusal as refusal_of};
 ghost use Rattle.rp_reading.specs.Stages.{refused};
 ghost use Rattle.rp_sizes.specs.Needs.{AreFactsOn, wanted_of};
 
@@ -42,7 +43,6 @@ pub enum Unplanned {
 
 /// What is to become of the image on a disk, by these definitions. The image is read, then the wanted sources are asked
 /// for their lengths and the roots of pairs. The disk is read alone.
-#[tactic(auto, using(crate::proofs::Answered::image_err, crate::proofs::Answered::image_ok))]
 pub fn plan_image<D: Disk, S: Sources>(
     alloc: Global,
     request: Request,
@@ -60,15 +60,34 @@ pub fn plan_image<D: Disk, S: Sources>(
         (refused (refusal_of list.now) result) }
     ensures well_formed { IfOk result (λ planned. IsPlan planned.seen planned.plan) }
 {
-    match read_at(alloc, disk, request.empty, request.sector) {
+    match read_image(alloc, request, disk) {
         Ok(seen) => plan_seen(alloc, request, list, seen, sources),
         Err(fault) => Err(Unplanned::Image(fault)),
     }
 }
 
-// The same, from what was seen of the image.
+/// What is seen of the image on a disk, which is read alone.
+#[tactic(auto, using(crate::proofs::Answered::image_refused, crate::proofs::Answered::image_seen))]
+pub fn read_image<D: Disk>(
+    alloc: Global,
+    request: Request,
+    disk: &mut D,
+) -> Result<Seen, TableFault>
+    requires { IsSector request.sector }
+    ensures { ReadsImage request.sector request.empty
+        (device D.first D.calls D.faults D.strays disk.old) (device D.first D.calls D.faults D.strays disk.new)
+        (refused table_refusal_of result) }
+{
+    match read_at(alloc, disk, request.empty, request.sector) {
+        Ok(seen) => Ok(seen),
+        Err(fault) => Err(fault),
+    }
+}
+
+/// What is to become of an image of which this was seen, by these definitions: the wanted sources are asked, unless the
+/// image has to be repaired first.
 #[tactic(auto, using(crate::proofs::Answered::repair_first, crate::proofs::Answered::unknown, crate::proofs::Answered::known, crate::proofs::Answered::known_each))]
-fn plan_seen<S: Sources>(
+pub fn plan_seen<S: Sources>(
     alloc: Global,
     request: Request,
     list: &[Definition],
@@ -184,7 +203,8 @@ fn target_of(size: u64, seen: &Seen) -> u64
     seen.sectors.max(size / 512)
 }
 
-fn must_repair(size: u64, seen: &Seen) -> bool
+/// Whether an image has to be repaired before it grows to so many bytes.
+pub fn must_repair(size: u64, seen: &Seen) -> bool
     ensures { result ≡ must_repair_first size seen.now }
 {
     seen.sectors < target_of(size, seen) && seen.origin != Origin::Primary

@@ -9,7 +9,7 @@ use Rattle.rp_base.specs.Plan.{Noted, noted_of}
 use Rattle.rp_base.specs.declared.plan.Plan.{Plan}
 use Rattle.rp_defs.specs.declared.definition.Definition.{Definition}
 use Rattle.rp_defs.specs.declared.definition.Definitions.{Definitions}
-use Rattle.rp_report.specs.Json.{row_data, seen_data}
+use Rattle.rp_report.specs.Json.{integer, row_data, seen_data}
 use Rattle.rp_report.specs.PlanJson.{noted_data, owner_data, plan_members, with_applied}
 use Rattle.rp_report.specs.Plans.{file_text}
 
@@ -38,17 +38,25 @@ files_have_no_float : (list : List Definition) (places : List ℕ)
 files_have_no_float list [] = refl
 files_have_no_float list (place ∷ places) = files_have_no_float list places
 
-pub plan_has_no_float : (plan : Plan) (definitions : Definitions) (steps writes : ℕ) (applied : Bool)
-    → has_float (object (with_applied applied (plan_members plan definitions steps writes))) ≡ false
-plan_has_no_float plan definitions steps writes true =
+slots_have_no_float : (slots : List ℕ) → items_have_float (items_of (map integer slots)) ≡ false
+slots_have_no_float [] = refl
+slots_have_no_float (slot ∷ slots) = slots_have_no_float slots
+
+pub plan_has_no_float : (plan : Plan) (definitions : Definitions) (steps writes : ℕ) (applied : Bool) (reset : Option (List ℕ))
+    → has_float (object (with_applied applied (plan_members plan definitions steps writes reset))) ≡ false
+plan_has_no_float plan definitions steps writes true None =
     rw (files_have_no_float definitions.list plan.dropped, noted_have_no_float definitions.list (noted_of plan)) refl
-plan_has_no_float plan definitions steps writes false =
+plan_has_no_float plan definitions steps writes false None =
     rw (files_have_no_float definitions.list plan.dropped, noted_have_no_float definitions.list (noted_of plan)) refl
+plan_has_no_float plan definitions steps writes true (Some slots) =
+    rw (files_have_no_float definitions.list plan.dropped, slots_have_no_float slots, noted_have_no_float definitions.list (noted_of plan)) refl
+plan_has_no_float plan definitions steps writes false (Some slots) =
+    rw (files_have_no_float definitions.list plan.dropped, slots_have_no_float slots, noted_have_no_float definitions.list (noted_of plan)) refl
 
 -- the text of a value that is the plan's
-pub text_of_plan : (plan : Plan) (definitions : Definitions) (steps writes : ℕ) (applied : Bool) (value : Data) (text : List ℕ)
-    → value ≡ object (with_applied applied (plan_members plan definitions steps writes))
+pub text_of_plan : (plan : Plan) (definitions : Definitions) (steps writes : ℕ) (applied : Bool) (reset : Option (List ℕ)) (value : Data)
+    (text : List ℕ) → value ≡ object (with_applied applied (plan_members plan definitions steps writes reset))
     → (has_float value ≡ false → text ≡ compact_text value)
-    → text ≡ compact_text (object (with_applied applied (plan_members plan definitions steps writes)))
-text_of_plan plan definitions steps writes applied value text e written =
-    written (ap has_float e ∙ plan_has_no_float plan definitions steps writes applied) ∙ ap compact_text e
+    → text ≡ compact_text (object (with_applied applied (plan_members plan definitions steps writes reset)))
+text_of_plan plan definitions steps writes applied reset value text e written =
+    written (ap has_float e ∙ plan_has_no_float plan definitions steps writes applied reset) ∙ ap compact_text e

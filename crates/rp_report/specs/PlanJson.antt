@@ -1,5 +1,5 @@
 -- What `plan` prints of a plan as JSON: one line, the keys in the order of their bytes.
-use Rattle.std.specs.Prelude.{ℕ, List, ◌++◌, Bool, true, codes, if◌then◌else◌, map, Option}
+use Rattle.std.specs.Prelude.{ℕ, List, ◌++◌, Bool, true, codes, if◌then◌else◌, map, Option, Some, None}
 use Rattle.std.specs.Option.{option_map_or}
 use Rattle.std.specs.Int.{w64, to_be_bytes}
 use Rattle.hex.specs.Hex.{encode_lower}
@@ -38,24 +38,34 @@ noted_data list noted = object
 abbrev pub files_data : List Definition → List ℕ → Data
 files_data list places = array (items_of (map (λ place. string (file_text list place)) places))
 
+-- slots
+abbrev pub slots_data : List ℕ → Data
+slots_data slots = array (items_of (map integer slots))
+
+-- the slots that a factory reset took out, where one was asked for, stand before the rest
+abbrev pub with_reset : Option (List ℕ) → Members → Members
+with_reset None members = members
+with_reset (Some slots) members = member (codes "reset") (slots_data slots) members
+
 -- what is told of a plan
-abbrev pub plan_members : Plan → Definitions → ℕ → ℕ → Members
-plan_members plan definitions steps writes =
+abbrev pub plan_members : Plan → Definitions → ℕ → ℕ → Option (List ℕ) → Members
+plan_members plan definitions steps writes reset =
     member (codes "disk") (string (guid_text plan.goal.disk))
     (member (codes "dropped") (files_data definitions.list plan.dropped)
     (member (codes "ignored") (integer definitions.ignored)
+    (with_reset reset
     (member (codes "rows") (array (items_of (map (noted_data definitions.list) (noted_of plan))))
     (member (codes "steps") (integer steps)
     (member (codes "target") (integer plan.target)
     (member (codes "usable") (array (item (integer plan.goal.first) (item (integer plan.goal.last) no_items)))
     (member (codes "writes") (integer writes)
-    no_members)))))))
+    no_members))))))))
 
 -- that all was done stands before the rest
 abbrev pub with_applied : Bool → Members → Members
 with_applied applied members = if applied then member (codes "applied") (boolean true) members else members
 
 -- the object, and the line's end
-unfoldable pub plan_json : Plan → Definitions → ℕ → ℕ → Bool → List ℕ
-plan_json plan definitions steps writes applied =
-    compact_text (object (with_applied applied (plan_members plan definitions steps writes))) ++ codes "\n"
+unfoldable pub plan_json : Plan → Definitions → ℕ → ℕ → Bool → Option (List ℕ) → List ℕ
+plan_json plan definitions steps writes applied reset =
+    compact_text (object (with_applied applied (plan_members plan definitions steps writes reset))) ++ codes "\n"

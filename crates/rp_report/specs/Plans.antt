@@ -44,6 +44,15 @@ noted_line list noted = decimal noted.0.slot ++ codes " " ++ change_word noted.1
 abbrev pub dropped_line : List Definition → ℕ → List ℕ
 dropped_line list place = codes "dropped " ++ file_text list place ++ codes "\n"
 
+-- the line of a slot that a factory reset took out
+abbrev pub reset_line : ℕ → List ℕ
+reset_line slot = codes "reset " ++ decimal slot ++ codes "\n"
+
+-- those of all; none where no reset was asked for
+abbrev pub reset_text : Option (List ℕ) → List ℕ
+reset_text None = []
+reset_text (Some slots) = flat_map reset_line slots
+
 -- how many assignments of the definitions were ignored
 abbrev pub ignored_line : ℕ → List ℕ
 ignored_line ignored = codes "ignored " ++ decimal ignored ++ codes "\n"
@@ -61,6 +70,6 @@ unfoldable pub rows_text : List Definition → Plan → List ℕ
 rows_text list plan = flat_map (noted_line list) (noted_of plan) ++ flat_map (dropped_line list) plan.dropped
 
 -- the whole
-unfoldable pub plan_bytes : Plan → Definitions → ℕ → ℕ → Bool → List ℕ
-plan_bytes plan definitions steps writes applied = target_line plan.target plan.goal ++ rows_text definitions.list plan
+unfoldable pub plan_bytes : Plan → Definitions → ℕ → ℕ → Bool → Option (List ℕ) → List ℕ
+plan_bytes plan definitions steps writes applied reset = target_line plan.target plan.goal ++ rows_text definitions.list plan ++ reset_text reset
     ++ (ignored_line definitions.ignored ++ steps_line steps writes ++ applied_line applied)

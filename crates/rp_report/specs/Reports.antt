@@ -1,5 +1,5 @@
 -- What is printed by a command that is done.
-use Rattle.std.specs.Prelude.{ℕ, List, Bool, if◌then◌else◌}
+use Rattle.std.specs.Prelude.{ℕ, List, Bool, Option, if◌then◌else◌}
 use Rattle.rp_base.specs.declared.plan.Plan.{Plan}
 use Rattle.rp_base.specs.declared.seen.Seen.{Seen}
 use Rattle.rp_defs.specs.declared.definition.Definitions.{Definitions}
@@ -12,7 +12,7 @@ use Rattle.rp_report.specs.Json.{show_json}
 unfoldable pub show_report : Bool → Seen → List ℕ
 show_report json seen = if json then show_json seen else show_bytes seen
 
--- what `plan` prints of a plan for these definitions, and `apply` when it is done
-unfoldable pub plan_report : Bool → Plan → Definitions → ℕ → ℕ → Bool → List ℕ
-plan_report json plan definitions steps writes applied =
-    if json then plan_json plan definitions steps writes applied else plan_bytes plan definitions steps writes applied
+-- what `plan` prints of a plan for these definitions, and `apply` when it is done; behind a factory reset the slots that it took out too
+unfoldable pub plan_report : Bool → Plan → Definitions → ℕ → ℕ → Bool → Option (List ℕ) → List ℕ
+plan_report json plan definitions steps writes applied reset =
+    if json then plan_json plan definitions steps writes applied reset else plan_bytes plan definitions steps writes applied reset

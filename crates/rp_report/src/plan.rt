@@ -1,7 +1,8 @@
 ghost use Rattle.std.specs.Prelude.{◌≡◌, ◌++◌, IfOk, OnOk, length, string_bytes, zip};
 ghost use Rattle.std.specs.List.{flat_map};
+ghost use Rattle.std.specs.Option.{option_copied};
 ghost use Rattle.rp_base.specs.Plan.{noted_of};
-ghost use Rattle.rp_report.specs.Plans.{applied_line, bounds_text, change_word as change_word_of, dropped_line, file_text, ignored_line, noted_line, owner_text, plan_bytes, rows_text, steps_line, target_line};
+ghost use Rattle.rp_report.specs.Plans.{applied_line, bounds_text, change_word as change_word_of, dropped_line, file_text, ignored_line, noted_line, owner_text, plan_bytes, reset_line, reset_text, rows_text, steps_line, target_line};
 ghost use Rattle.rp_report.specs.Reports.{plan_report};
 
 use crate::names::push_guid;
@@ -12,8 +13,9 @@ use rp_defs::{Definition, Definitions};
 use std::alloc::{AllocError, Global};
 
 /// What `plan` prints of a plan for these definitions: a line for the whole, one for each row of the goal, one for each
-/// definition that gets none, and how many assignments were ignored, and how many steps and writes it takes. `applied`
-/// tells that all was done. With `json` the same as one object.
+/// definition that gets none, one for each slot in `reset`, and how many assignments were ignored, and how many steps and
+/// writes it takes. `applied` tells that all was done. `reset` are the slots that a factory reset took out, where one was
+/// asked for. With `json` the same as one object.
 #[tactic(auto, unfolding(crate::specs::Reports::plan_report))]
 pub fn plan_text(
     alloc: Global,
@@ -23,14 +25,15 @@ pub fn plan_text(
     steps: u64,
     writes: u64,
     applied: bool,
+    reset: Option<&[u16]>,
 ) -> Result<Text, Memory>
     requires { length plan.now.notes ≡ length plan.now.goal.rows }
-    ensures { IfOk result (λ text. text ≡ plan_report json plan.now definitions.now steps writes applied) }
+    ensures { IfOk result (λ text. text ≡ plan_report json plan.now definitions.now steps writes applied (option_copied reset.entry)) }
 {
     let text = if json {
-        plan_json_text(alloc, plan, definitions, steps, writes, applied)?
+        plan_json_text(alloc, plan, definitions, steps, writes, applied, reset)?
     } else {
-        plan_lines(alloc, plan, definitions, steps, writes, applied)?
+        plan_lines(alloc, plan, definitions, steps, writes, applied, reset)?
     };
     Ok(Text::from_string(text))
 }
@@ -43,13 +46,15 @@ fn plan_lines(
     steps: u64,
     writes: u64,
     applied: bool,
+    reset: Option<&[u16]>,
 ) -> Result<String, AllocError>
     requires { length plan.now.notes ≡ length plan.now.goal.rows }
-    ensures { IfOk result (λ text. string_bytes text ≡ plan_bytes plan.now definitions.now steps writes applied) }
+    ensures { IfOk result (λ text. string_bytes text ≡ plan_bytes plan.now definitions.now steps writes applied (option_copied reset.entry)) }
 {
     let mut text = String::new(alloc);
     push_target(&mut text, plan.target, &plan.goal)?;
     push_rows(&mut text, plan, definitions.list.as_slice())?;
+    push_reset(&mut text, reset)?;
     push_counts(&mut text, definitions.ignored, steps, writes, applied)?;
     Ok(text)
 }
@@ -164,6 +169,24 @@ fn push_dropped_line(text: &mut String, place: u16, list: &[Definition]) -> Resu
 {
     let file = file_of(list, place);
     write!(text, "dropped {file}\n")
+}
+
+fn push_reset(text: &mut String, reset: Option<&[u16]>) -> Result<(), AllocError>
+    ensures { OnOk result (string_bytes text.new ≡ string_bytes text.old ++ reset_text (option_copied reset.entry)) }
+{
+    match reset {
+        Some(slots) => push_reset_lines(text, slots),
+        None => Ok(()),
+    }
+}
+
+fn push_reset_lines(text: &mut String, slots: &[u16]) -> Result<(), AllocError>
+    ensures { OnOk result (string_bytes text.new ≡ string_bytes text.old ++ flat_map reset_line slots.now) }
+{
+    for &slot in slots {
+        write!(text, "reset {slot}\n")?;
+    }
+    Ok(())
 }
 
 fn push_counts(

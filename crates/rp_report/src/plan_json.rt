@@ -1,6 +1,8 @@
-ghost use Rattle.std.specs.Prelude.{◌≡◌, IfOk, OnOk, codes, length, map, string_bytes, true, zip};
+ghost use Rattle.std.specs.Prelude.{◌≡◌, IfOk, None, OnOk, codes, length, map, string_bytes, true, zip};
+ghost use Rattle.std.specs.Option.{option_copied};
 ghost use Rattle.rp_base.specs.Plan.{noted_of};
-ghost use Rattle.rp_report.specs.PlanJson.{files_data, noted_data, owner_data, plan_json, plan_members as members_of_plan, with_applied};
+ghost use Rattle.rp_report.specs.Json.{integer};
+ghost use Rattle.rp_report.specs.PlanJson.{files_data, noted_data, owner_data, plan_json, plan_members as members_of_plan, slots_data, with_applied};
 ghost use Rattle.rp_report.specs.Plans.{file_text};
 ghost use Rattle.serde_json.specs.Data.{array, boolean, object, put as with_member, string};
 ghost use Rattle.serde_json.specs.View.{items_of, members_view, view};
@@ -22,11 +24,12 @@ pub fn plan_json_text(
     steps: u64,
     writes: u64,
     applied: bool,
+    reset: Option<&[u16]>,
 ) -> Result<String, AllocError>
     requires { length plan.now.notes ≡ length plan.now.goal.rows }
-    ensures { IfOk result (λ text. string_bytes text ≡ plan_json plan.now definitions.now steps writes applied) }
+    ensures { IfOk result (λ text. string_bytes text ≡ plan_json plan.now definitions.now steps writes applied (option_copied reset.entry)) }
 {
-    let value = plan_value(alloc, plan, definitions, steps, writes, applied)?;
+    let value = plan_value(alloc, plan, definitions, steps, writes, applied, reset)?;
     let mut text = value.to_string(alloc)?;
     text.push_str("\n")?;
     Ok(text)
@@ -39,11 +42,13 @@ fn plan_value(
     steps: u64,
     writes: u64,
     applied: bool,
+    reset: Option<&[u16]>,
 ) -> Result<Value, AllocError>
     requires { length plan.now.notes ≡ length plan.now.goal.rows }
-    ensures { IfOk result (λ value. view value ≡ object (with_applied applied (members_of_plan plan.now definitions.now steps writes))) }
+    ensures { IfOk result (λ value. view value
+        ≡ object (with_applied applied (members_of_plan plan.now definitions.now steps writes (option_copied reset.entry)))) }
 {
-    let members = plan_members(alloc, plan, definitions, steps, writes)?;
+    let members = plan_members(alloc, plan, definitions, steps, writes, reset)?;
     if applied {
         let members = marked(members, alloc)?;
         Ok(Value::Object(members))
@@ -68,9 +73,32 @@ fn plan_members(
     definitions: &Definitions,
     steps: u64,
     writes: u64,
+    reset: Option<&[u16]>,
 ) -> Result<Members, AllocError>
     requires { length plan.now.notes ≡ length plan.now.goal.rows }
-    ensures { IfOk result (λ members. members_view members.entries ≡ members_of_plan plan.now definitions.now steps writes) }
+    ensures { IfOk result (λ members. members_view members.entries
+        ≡ members_of_plan plan.now definitions.now steps writes (option_copied reset.entry)) }
+{
+    let members = members_without_reset(alloc, plan, definitions, steps, writes)?;
+    match reset {
+        Some(slots) => {
+            let mut members = members;
+            put_slots(&mut members, alloc, "reset", slots)?;
+            Ok(members)
+        }
+        None => Ok(members),
+    }
+}
+
+fn members_without_reset(
+    alloc: Global,
+    plan: &Plan,
+    definitions: &Definitions,
+    steps: u64,
+    writes: u64,
+) -> Result<Members, AllocError>
+    requires { length plan.now.notes ≡ length plan.now.goal.rows }
+    ensures { IfOk result (λ members. members_view members.entries ≡ members_of_plan plan.now definitions.now steps writes None) }
 {
     let list = definitions.list.as_slice();
     let mut members = Map::new(alloc);
@@ -123,6 +151,29 @@ fn file_values(alloc: Global, list: &[Definition], places: &[u16]) -> Result<Vec
     for &place in places {
         let name = String::from_str(alloc, file_of(list, place))?;
         values.push(Value::String(name))?;
+    }
+    Ok(values)
+}
+
+fn put_slots(
+    members: &mut Members,
+    alloc: Global,
+    key: &str,
+    slots: &[u16],
+) -> Result<(), AllocError>
+    ensures { OnOk result (members_view members.new.entries
+        ≡ with_member key.now (slots_data slots.now) (members_view members.old.entries)) }
+{
+    let values = slot_values(alloc, slots)?;
+    put(members, alloc, key, Value::Array(values))
+}
+
+fn slot_values(alloc: Global, slots: &[u16]) -> Result<Vec<Value>, AllocError>
+    ensures { IfOk result (λ values. map view values.items ≡ map integer slots.now) }
+{
+    let mut values = Vec::new(alloc);
+    for &slot in slots {
+        values.push(Value::from(u64::from(slot)))?;
     }
     Ok(values)
 }

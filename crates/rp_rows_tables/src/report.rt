@@ -80,18 +80,22 @@ fn definition(alloc: Global, file: &str) -> Result<Definition, Fail> {
     })
 }
 
-#[test]
-fn with_ample_memory_a_plan_has_its_text(rt: HostRuntime) -> Result<(), Fail> {
-    let alloc = rt.alloc();
-    let plan = plan(alloc)?;
-    let definitions = Definitions {
+fn definitions(alloc: Global) -> Result<Definitions, Fail> {
+    Ok(Definitions {
         list: List::from_vec(vec![in alloc;
             definition(alloc, "a.conf")?,
             definition(alloc, "b.conf")?,
         ]?),
         ignored: 3,
-    };
-    let text = plan_text(alloc, false, &plan, &definitions, 19, 23, true)?;
+    })
+}
+
+#[test]
+fn with_ample_memory_a_plan_has_its_text(rt: HostRuntime) -> Result<(), Fail> {
+    let alloc = rt.alloc();
+    let plan = plan(alloc)?;
+    let definitions = definitions(alloc)?;
+    let text = plan_text(alloc, false, &plan, &definitions, 19, 23, true, None)?;
     assert_eq!(rt;
         text.as_str(),
         "plan target 131072 usable 2048-131038 disk aaaaaaaa-aaaa-aaaa-aaaa-aaaaaaaaaaaa
@@ -103,7 +107,7 @@ steps 19 writes 23
 applied
 "
     );
-    let text = plan_text(alloc, true, &plan, &definitions, 19, 23, false)?;
+    let text = plan_text(alloc, true, &plan, &definitions, 19, 23, false, None)?;
     assert_eq!(rt;
         text.as_str(),
         "{\"disk\":\"aaaaaaaa-aaaa-aaaa-aaaa-aaaaaaaaaaaa\",\"dropped\":[\"b.conf\"],\"ignored\":3,\"rows\":[\
@@ -113,5 +117,63 @@ applied
         \"name\":\"\",\"size\":8,\"slot\":1,\"start\":2056,\"type\":\"linux-generic\"}],\
         \"steps\":19,\"target\":131072,\"usable\":[2048,131038],\"writes\":23}\n"
     );
+    Ok(())
+}
+
+#[test]
+fn behind_a_reset_it_tells_the_slots(rt: HostRuntime) -> Result<(), Fail> {
+    let alloc = rt.alloc();
+    let plan = plan(alloc)?;
+    let definitions = definitions(alloc)?;
+    let text = plan_text(
+        alloc,
+        false,
+        &plan,
+        &definitions,
+        27,
+        20,
+        true,
+        Some(&[0, 5]),
+    )?;
+    assert_eq!(rt;
+        text.as_str(),
+        "plan target 131072 usable 2048-131038 disk aaaaaaaa-aaaa-aaaa-aaaa-aaaaaaaaaaaa
+0 same - linux-generic start 2048 size 8 id 11111111-1111-1111-1111-111111111111 attrs 0800000000000000 name \"\"
+1 new a.conf linux-generic start 2056 size 8 id 11111111-1111-1111-1111-111111111111 attrs 0800000000000000 name \"\"
+dropped b.conf
+reset 0
+reset 5
+ignored 3
+steps 27 writes 20
+applied
+"
+    );
+    let text = plan_text(
+        alloc,
+        true,
+        &plan,
+        &definitions,
+        27,
+        20,
+        true,
+        Some(&[0, 5]),
+    )?;
+    assert_eq!(rt;
+        text.as_str(),
+        "{\"applied\":true,\"disk\":\"aaaaaaaa-aaaa-aaaa-aaaa-aaaaaaaaaaaa\",\"dropped\":[\"b.conf\"],\"ignored\":3,\"reset\":[0,5],\"rows\":[\
+        {\"attrs\":\"0800000000000000\",\"change\":\"same\",\"file\":null,\"id\":\"11111111-1111-1111-1111-111111111111\",\
+        \"name\":\"\",\"size\":8,\"slot\":0,\"start\":2048,\"type\":\"linux-generic\"},\
+        {\"attrs\":\"0800000000000000\",\"change\":\"new\",\"file\":\"a.conf\",\"id\":\"11111111-1111-1111-1111-111111111111\",\
+        \"name\":\"\",\"size\":8,\"slot\":1,\"start\":2056,\"type\":\"linux-generic\"}],\
+        \"steps\":27,\"target\":131072,\"usable\":[2048,131038],\"writes\":20}\n"
+    );
+    // With no slot taken out, the key is there all the same, and no line.
+    let text = plan_text(alloc, true, &plan, &definitions, 0, 0, false, Some(&[]))?;
+    assert!(rt;
+        text.as_str()
+            .contains("\"ignored\":3,\"reset\":[],\"rows\":")
+    );
+    let text = plan_text(alloc, false, &plan, &definitions, 0, 0, false, Some(&[]))?;
+    assert!(rt; text.as_str().contains("dropped b.conf\nignored 3\n"));
     Ok(())
 }

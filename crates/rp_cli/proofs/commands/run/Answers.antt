@@ -1,8 +1,7 @@
 use Rattle.std.proofs.Common.{inl, inr, map, string_bytes, subst, sym, true≢false}
 use Rattle.std.specs.Prelude.{◌≢◌, IfOk, IsErr}
 use Rattle.rp_cli.proofs.Policies.{compare_causes, compare_files, compare_words, dissect_causes, dissect_files, policy_causes, policy_files}
-use Rattle.rp_cli.proofs.Promised.{check_causes, check_files, check_only_read, check_words, plan_causes, plan_files}
-use Rattle.rp_cli.specs.Asked.{request_of}
+use Rattle.rp_cli.proofs.Promised.{check_causes, check_files, check_only_read, check_words}
 use Rattle.rp_outcome.specs.Device.{device}
 use Rattle.rp_outcome.specs.Output.{output}
 use Rattle.rp_outcome.specs.Store.{store}
@@ -13,32 +12,21 @@ use Rattle.rp_words.specs.declared.table.Command.TheVariants.{Apply}
 use Rattle.rp_words.specs.declared.table.Opt.TheVariants.{Against, Definitions, Policy}
 use Rattle.rp_cli.proofs.commands.run.Goals as goal
 
--- what holds of every command, for `plan`
+-- `plan` says of itself what holds of every command
 pub returns-in-Plan-clause-causes : goal.returns-in-Plan-clause-causes
-returns-in-Plan-clause-causes g c =
-    plan_causes (request_of c.in-Ok.line) c.in-Ok.line.json (paths_of (text_in Definitions (map string_bytes c.args.words.now)))
-    (store g.F.Folders.told g.F.Folders.faults g.F.Folders.strays c.args.folders.now)
-    (store g.F.Folders.told g.F.Folders.faults g.F.Folders.strays c.run_plan.new.folders)
-    (device g.D.Disk.first g.D.Disk.calls g.D.Disk.faults g.D.Disk.strays c.args.disk.now)
-    (device g.D.Disk.first g.D.Disk.calls g.D.Disk.faults g.D.Disk.strays c.run_plan.new.disk)
-    (store g.S.Sources.told g.S.Sources.faults g.S.Sources.strays c.args.sources.now)
-    (store g.S.Sources.told g.S.Sources.faults g.S.Sources.strays c.run_plan.new.sources)
-    (output g.K.Sink.told g.K.Sink.faults c.args.out.now)
-    (output g.K.Sink.told g.K.Sink.faults c.run_plan.new.out)
-    c.run_plan.result c.run_plan.ensures
+returns-in-Plan-clause-causes g c = c.plan_by_line.ensures.holds.causes
 
 pub returns-in-Plan-clause-files : goal.returns-in-Plan-clause-files
-returns-in-Plan-clause-files g c =
-    plan_files (request_of c.in-Ok.line) c.in-Ok.line.json (paths_of (text_in Definitions (map string_bytes c.args.words.now)))
-    (store g.F.Folders.told g.F.Folders.faults g.F.Folders.strays c.args.folders.now)
-    (store g.F.Folders.told g.F.Folders.faults g.F.Folders.strays c.run_plan.new.folders)
-    (device g.D.Disk.first g.D.Disk.calls g.D.Disk.faults g.D.Disk.strays c.args.disk.now)
-    (device g.D.Disk.first g.D.Disk.calls g.D.Disk.faults g.D.Disk.strays c.run_plan.new.disk)
-    (store g.S.Sources.told g.S.Sources.faults g.S.Sources.strays c.args.sources.now)
-    (store g.S.Sources.told g.S.Sources.faults g.S.Sources.strays c.run_plan.new.sources)
-    (output g.K.Sink.told g.K.Sink.faults c.args.out.now)
-    (output g.K.Sink.told g.K.Sink.faults c.run_plan.new.out)
-    c.run_plan.result c.run_plan.ensures
+returns-in-Plan-clause-files g c = c.plan_by_line.ensures.holds.files
+
+pub returns-in-Plan-clause-words : goal.returns-in-Plan-clause-words
+returns-in-Plan-clause-words g c = (
+  λ e. absurd (c.plan_by_line.ensures.holds.words e),
+  λ err. absurd (true≢false (sym (subst (λ answer. IsErr answer) (sym c.in-Ok.ensures.line) err))),
+)
+
+pub returns-in-Plan-clause-only_read : goal.returns-in-Plan-clause-only_read
+returns-in-Plan-clause-only_read g c = λ other. c.plan_by_line.ensures.only_read
 
 -- the same for `check`
 pub returns-in-Check-clause-causes : goal.returns-in-Check-clause-causes
@@ -170,14 +158,14 @@ returns-in-Compare-clause-words g c = (
 
 -- `apply` says of itself what holds of every command
 pub returns-in-Apply-clause-causes : goal.returns-in-Apply-clause-causes
-returns-in-Apply-clause-causes g c = c.run_apply.ensures.holds.causes
+returns-in-Apply-clause-causes g c = c.apply_by_line.ensures.holds.causes
 
 pub returns-in-Apply-clause-files : goal.returns-in-Apply-clause-files
-returns-in-Apply-clause-files g c = c.run_apply.ensures.holds.files
+returns-in-Apply-clause-files g c = c.apply_by_line.ensures.holds.files
 
 pub returns-in-Apply-clause-words : goal.returns-in-Apply-clause-words
 returns-in-Apply-clause-words g c = (
-  λ e. absurd (c.run_apply.ensures.holds.words e),
+  λ e. absurd (c.apply_by_line.ensures.holds.words e),
   λ err. absurd (true≢false (sym (subst (λ answer. IsErr answer) (sym c.in-Ok.ensures.line) err))),
 )
 

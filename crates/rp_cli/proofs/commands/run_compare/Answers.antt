@@ -3,7 +3,7 @@ use Rattle.std.proofs.Common.{ℕ, List, map, string_bytes, subst}
 use Rattle.rp_outcome.specs.Output.{output}
 use Rattle.rp_policy_command.specs.Commands.{Compares}
 use Rattle.rp_words.specs.Line.{text_in}
-use Rattle.rp_words.specs.declared.table.Opt.TheVariants.{Against, Policy}
+use Rattle.rp_words.specs.declared.table.Opt.TheVariants.{Against}
 use Rattle.rp_cli.proofs.commands.run_compare.Goals as goal
 
 pub returns : goal.returns

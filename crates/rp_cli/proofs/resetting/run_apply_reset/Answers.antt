@@ -1,0 +1,63 @@
+-- Each promise of `apply` with a factory reset, by its stages.
+use Rattle.std.proofs.Common.{map, string_bytes}
+use Rattle.rp_cli.proofs.Renewed.{apply_holds, reset_applied, reset_refused, reset_safe}
+use Rattle.rp_cli.specs.Asked.{request_of}
+use Rattle.rp_outcome.specs.Device.{device}
+use Rattle.rp_outcome.specs.Output.{output}
+use Rattle.rp_outcome.specs.Store.{store}
+use Rattle.rp_words.specs.Line.{text_in}
+use Rattle.rp_words.specs.Values.{paths_of}
+use Rattle.rp_words.specs.declared.table.Opt.TheVariants.{Definitions}
+use Rattle.rp_cli.proofs.resetting.run_apply_reset.Goals as goal
+
+pub returns-clause-renewed : goal.returns-clause-renewed
+returns-clause-renewed g c =
+    reset_applied (request_of c.args.line) c.args.line.json (paths_of (text_in Definitions (map string_bytes c.args.words.now)))
+    (store g.F.Folders.told g.F.Folders.faults g.F.Folders.strays c.args.folders.now)
+    (store g.F.Folders.told g.F.Folders.faults g.F.Folders.strays c.apply_reset_asked.new.folders)
+    (device g.D.Disk.first g.D.Disk.calls g.D.Disk.faults g.D.Disk.strays c.args.disk.now)
+    (device g.D.Disk.first g.D.Disk.calls g.D.Disk.faults g.D.Disk.strays c.apply_reset_asked.new.disk)
+    (store g.S.Sources.told g.S.Sources.faults g.S.Sources.strays c.args.sources.now)
+    (store g.S.Sources.told g.S.Sources.faults g.S.Sources.strays c.apply_reset_asked.new.sources)
+    (output g.K.Sink.told g.K.Sink.faults c.args.out.now)
+    (output g.K.Sink.told g.K.Sink.faults c.apply_reset_asked.new.out)
+    c.apply_reset_asked.result c.requires.sector c.requires.size c.apply_reset_asked.ensures
+
+pub returns-clause-any_moment : goal.returns-clause-any_moment
+returns-clause-any_moment g c =
+    reset_safe (request_of c.args.line) c.args.line.json (paths_of (text_in Definitions (map string_bytes c.args.words.now)))
+    (store g.F.Folders.told g.F.Folders.faults g.F.Folders.strays c.args.folders.now)
+    (store g.F.Folders.told g.F.Folders.faults g.F.Folders.strays c.apply_reset_asked.new.folders)
+    (device g.D.Disk.first g.D.Disk.calls g.D.Disk.faults g.D.Disk.strays c.args.disk.now)
+    (device g.D.Disk.first g.D.Disk.calls g.D.Disk.faults g.D.Disk.strays c.apply_reset_asked.new.disk)
+    (store g.S.Sources.told g.S.Sources.faults g.S.Sources.strays c.args.sources.now)
+    (store g.S.Sources.told g.S.Sources.faults g.S.Sources.strays c.apply_reset_asked.new.sources)
+    (output g.K.Sink.told g.K.Sink.faults c.args.out.now)
+    (output g.K.Sink.told g.K.Sink.faults c.apply_reset_asked.new.out)
+    c.apply_reset_asked.result c.requires.sector c.requires.size c.apply_reset_asked.ensures
+
+pub returns-clause-untouched : goal.returns-clause-untouched
+returns-clause-untouched g c =
+    reset_refused (request_of c.args.line) c.args.line.json (paths_of (text_in Definitions (map string_bytes c.args.words.now)))
+    (store g.F.Folders.told g.F.Folders.faults g.F.Folders.strays c.args.folders.now)
+    (store g.F.Folders.told g.F.Folders.faults g.F.Folders.strays c.apply_reset_asked.new.folders)
+    (device g.D.Disk.first g.D.Disk.calls g.D.Disk.faults g.D.Disk.strays c.args.disk.now)
+    (device g.D.Disk.first g.D.Disk.calls g.D.Disk.faults g.D.Disk.strays c.apply_reset_asked.new.disk)
+    (store g.S.Sources.told g.S.Sources.faults g.S.Sources.strays c.args.sources.now)
+    (store g.S.Sources.told g.S.Sources.faults g.S.Sources.strays c.apply_reset_asked.new.sources)
+    (output g.K.Sink.told g.K.Sink.faults c.args.out.now)
+    (output g.K.Sink.told g.K.Sink.faults c.apply_reset_asked.new.out)
+    c.apply_reset_asked.result c.requires.sector c.requires.size c.apply_reset_asked.ensures
+
+pub returns-clause-holds : goal.returns-clause-holds
+returns-clause-holds g c =
+    apply_holds (request_of c.args.line) c.args.line.json (paths_of (text_in Definitions (map string_bytes c.args.words.now)))
+    (store g.F.Folders.told g.F.Folders.faults g.F.Folders.strays c.args.folders.now)
+    (store g.F.Folders.told g.F.Folders.faults g.F.Folders.strays c.apply_reset_asked.new.folders)
+    (device g.D.Disk.first g.D.Disk.calls g.D.Disk.faults g.D.Disk.strays c.args.disk.now)
+    (device g.D.Disk.first g.D.Disk.calls g.D.Disk.faults g.D.Disk.strays c.apply_reset_asked.new.disk)
+    (store g.S.Sources.told g.S.Sources.faults g.S.Sources.strays c.args.sources.now)
+    (store g.S.Sources.told g.S.Sources.faults g.S.Sources.strays c.apply_reset_asked.new.sources)
+    (output g.K.Sink.told g.K.Sink.faults c.args.out.now)
+    (output g.K.Sink.told g.K.Sink.faults c.apply_reset_asked.new.out)
+    c.apply_reset_asked.result c.apply_reset_asked.ensures

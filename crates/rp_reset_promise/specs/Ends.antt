@@ -1,0 +1,52 @@
+-- What a run of `apply` with a factory reset made of an image, by its exit status.
+use Rattle.std.specs.Prelude.{ℕ, List, Bool, true, Option, Some, None}
+use Rattle.rp_apply_command.specs.Ends.{AreRead, CarriesAll, CarriesSome, IsBefore, IsBehind, IsBetween, LeavesAll}
+use Rattle.rp_base.specs.declared.plan.Plan.{Plan}
+use Rattle.rp_defs.specs.declared.definition.Definition.{Definition}
+use Rattle.rp_defs.specs.declared.definition.Definitions.{Definitions}
+use Rattle.rp_disk.specs.declared.call.Call.{Call}
+use Rattle.rp_io.specs.Files.{Tree}
+use Rattle.rp_io.specs.declared.stored.Stored.{Stored}
+use Rattle.rp_outcome.specs.Device.{Device}
+use Rattle.rp_outcome.specs.Output.{Output, Finishes, Refuses}
+use Rattle.rp_outcome.specs.Refusals.{Refusal}
+use Rattle.rp_outcome.specs.Store.{Store}
+use Rattle.rp_planned.specs.declared.request.Request.{Request}
+use Rattle.rp_reset_command.specs.Reports.{renewal_report}
+use Rattle.rp_reset_command.specs.declared.renewal.Renewal.{Renewal}
+use Rattle.rp_reset_ends.specs.Ends.{CarriesAllOfBoth, CarriesSomeOfBoth}
+
+-- what is planned was carried out, or the first of its calls behind a sync: those of both plans, or, where no row is taken out, those of
+-- one
+abbrev pub CarriesSomeBy : Request → List Definition → Device → Device → Store (List Stored) → Renewal → Option Plan → Type 0
+CarriesSomeBy request list disk later sources renewal None = (calls : List Call) × CarriesSome request list disk later sources renewal.planned calls
+CarriesSomeBy request list disk later sources renewal (Some reset) =
+    (before : List Call) × (behind : List Call)
+    × CarriesSomeOfBoth request list disk later sources renewal.seen reset renewal.planned.plan before behind
+
+abbrev pub CarriesSomeRenewed : Request → List Definition → Device → Device → Store (List Stored) → Renewal → Type 0
+CarriesSomeRenewed request list disk later sources renewal = CarriesSomeBy request list disk later sources renewal renewal.reset
+
+-- all of it was carried out
+abbrev pub CarriesAllBy : Request → List Definition → Device → Device → Store (List Stored) → Renewal → Option Plan → Type 0
+CarriesAllBy request list disk later sources renewal None = (calls : List Call) × CarriesAll request list disk later sources renewal.planned calls
+CarriesAllBy request list disk later sources renewal (Some reset) =
+    (before : List Call) × (behind : List Call)
+    × CarriesAllOfBoth request list disk later sources renewal.seen reset renewal.planned.plan before behind
+
+abbrev pub CarriesAllRenewed : Request → List Definition → Device → Device → Store (List Stored) → Renewal → Type 0
+CarriesAllRenewed request list disk later sources renewal = CarriesAllBy request list disk later sources renewal renewal.reset
+
+-- how a run of `apply` with a factory reset ends: refused before anything was carried out; with all carried out and told, as far as the
+-- sink took it; or broken off, before anything was carried out or on the way
+pub data ResetEnds (request : Request) (json : Bool) (dirs : List (List ℕ)) (folders : Store Tree) (disk later : Device)
+    (sources : Store (List Stored)) (out after : Output) (status : ℕ) : Type 0 where
+  before : IsBefore status → LeavesAll disk later → ResetEnds request json dirs folders disk later sources out after status
+  behind : IsBehind status → (definitions : Definitions) (renewal : Renewal) → AreRead request dirs folders definitions
+      → CarriesAllRenewed request definitions.list disk later sources renewal
+      → Finishes out after (renewal_report json definitions renewal true) status
+      → ResetEnds request json dirs folders disk later sources out after status
+  broken : IsBetween status → LeavesAll disk later → ResetEnds request json dirs folders disk later sources out after status
+  between : IsBetween status → (definitions : Definitions) (renewal : Renewal) → AreRead request dirs folders definitions
+      → CarriesSomeRenewed request definitions.list disk later sources renewal → (refusal : Refusal)
+      → Refuses out after refusal status → ResetEnds request json dirs folders disk later sources out after status
