@@ -90,7 +90,8 @@ module _ (plan : Plan) (sources : Sources) where
       (calls_of_steps plan no_sources steps) (step_alike step) (steps_alike steps)
 
   -- and nothing of the MBR
-  mbr_same : (seen : Seen) → map (calls_of_steps plan sources) (mbr_phases plan seen) ≡ map (calls_of_steps plan no_sources) (mbr_phases plan seen)
+  mbr_same : (seen : Seen) → map (calls_of_steps plan sources) (mbr_phases plan seen)
+      ≡ map (calls_of_steps plan no_sources) (mbr_phases plan seen)
   unfolding mbr_phases calls_of
   mbr_same seen = by (writes_mbr plan seen seen.mbr) where
     by : (b : Bool) → map (calls_of_steps plan sources) (cond b ((Mbr ∷ []) ∷ []) [])

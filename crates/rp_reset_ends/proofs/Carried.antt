@@ -79,7 +79,8 @@ module _ (request : Request) (definitions : Definitions) (disk opened read : Dev
   abbrev old : List ℕ → List ℕ
   old bytes = held (history_of bytes disk.calls)
 
-  goals : (bytes : List ℕ) → disk.first ≡ Some bytes → AreGoalsOf request definitions.list (held (history_of bytes disk.calls)) seen reset plan
+  goals : (bytes : List ℕ) → disk.first ≡ Some bytes
+      → AreGoalsOf request definitions.list (held (history_of bytes disk.calls)) seen reset plan
   goals = are_goals request list disk opened read sources asked seen reset plan of_sector whole most formed fits first synced plans
 
   -- reading makes no call
@@ -125,7 +126,8 @@ module _ (request : Request) (definitions : Definitions) (disk opened read : Dev
       stops_exactly : (files : List Stored) → sources.told ≡ Some files
           → StopsBothExactly request definitions.list disk later seen reset plan (before ++ behind) bytes files
       stops_exactly files told =
-          let any = subst (λ l. AtAnyMomentBehindSync (Some bytes) disk.calls l later.calls) (exact bytes tells files told) (at_any bytes) in
+          let any = subst (λ l. AtAnyMomentBehindSync (Some bytes) disk.calls l later.calls) (exact bytes tells files told)
+          (at_any bytes) in
           record {
             goals = are_told request list disk opened read sources asked seen reset plan of_sector whole most formed fits first synced plans
                 bytes tells files told;
@@ -157,8 +159,8 @@ module _ (request : Request) (definitions : Definitions) (disk opened read : Dev
           subst (λ l. EndsSettled (Some bytes) disk.calls l later.calls) (sym split.1)
           (ends_settled (Some bytes) disk.calls later.calls split.0 (done ∙ ap (λ l. disk.calls ++ dones l) split.1))
 
-      ends_so : (bytes : List ℕ) → disk.first ≡ Some bytes
-          → AtTheEnd bytes later (HasGoalAnew request.sector (held (history_of bytes disk.calls)) seen definitions.list request.seed reset plan)
+      ends_so : (bytes : List ℕ) → disk.first ≡ Some bytes → AtTheEnd bytes later
+          (HasGoalAnew request.sector (held (history_of bytes disk.calls)) seen definitions.list request.seed reset plan)
       ends_so bytes tells =
           let is = goals bytes tells in
           ends_any request.sector bytes request.empty seen (target_of request.size seen) list is.known request.seed reset plan disk.calls
@@ -172,7 +174,8 @@ module _ (request : Request) (definitions : Definitions) (disk opened read : Dev
           let is = goals bytes tells in
           ends_exact request.sector bytes request.empty seen (target_of request.size seen) list is.known request.seed reset plan disk.calls
           later.calls is.resets is.planned (Given list files)
-          (subst (λ l. EndsSettled (Some bytes) disk.calls (Sync ∷ l) later.calls) (exact bytes tells files told) (settled bytes)) fits.notes
+          (subst (λ l. EndsSettled (Some bytes) disk.calls (Sync ∷ l) later.calls) (exact bytes tells files told) (settled bytes))
+          fits.notes
 
       all : CarriesAllOfBoth request definitions.list disk later sources seen reset plan before behind
       all = record {
@@ -212,7 +215,8 @@ module _ (request : Request) (definitions : Definitions) (disk opened read : Dev
     rest = calls_for plan (seen_after seen reset) (sources_by sources.told)
 
     -- the reset was broken off
-    module _ (refusal : Refusal) (carries : CarriesOut definitions (with_seen seen reset) read later asked drained before (Err refusal)) where
+    module _ (refusal : Refusal)
+        (carries : CarriesOut definitions (with_seen seen reset) read later asked drained before (Err refusal)) where
       made_part : MadeFirst disk.calls (Sync ∷ before ++ rest) later.calls
       made_part = made_longer disk.calls later.calls (Sync ∷ before) rest
           (made_behind disk.calls read.calls later.calls (Sync ∷ []) before behind_sync
@@ -247,8 +251,8 @@ module _ (request : Request) (definitions : Definitions) (disk opened read : Dev
       exact_both bytes tells files told =
           ap (λ l. l ++ behind) (exact_calls (with_seen seen reset) read between asked left before (Ok tt) resets_so same_first
           plans.asks.told bytes tells files told)
-          ∙ ap (λ l. calls_for reset seen (Given list files) ++ l) (exact_calls (behind_reset seen reset plan) between later left drained behind
-          answer carries (resets_so.first ∙ same_first) (resets_so.told ∙ plans.asks.told) bytes tells files told)
+          ∙ ap (λ l. calls_for reset seen (Given list files) ++ l) (exact_calls (behind_reset seen reset plan) between later left drained
+          behind answer carries (resets_so.first ∙ same_first) (resets_so.told ∙ plans.asks.told) bytes tells files told)
 
       pub some_of_both : CarriesSomeOfBoth request definitions.list disk later sources seen reset plan before behind
       some_of_both = some later before behind resets_so.are carries.are made_both exact_both

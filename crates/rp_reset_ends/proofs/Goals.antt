@@ -53,7 +53,8 @@ module _ (request : Request) (list : List Definition) (disk opened read : Device
     sight =
         let there : IsSeenAt (history_of bytes opened.calls) =
         subst (λ o. IfSome (history_told o opened.calls) IsSeenAt) (first ∙ tells) plans.reads.settled in
-        let then : IsSeenAt (history_of bytes (disk.calls ++ dones (Sync ∷ []))) = subst (λ l. IsSeenAt (history_of bytes l)) synced there in
+        let then : IsSeenAt (history_of bytes (disk.calls ++ dones (Sync ∷ []))) =
+        subst (λ l. IsSeenAt (history_of bytes l)) synced there in
         let now : Settles disk_refusal (seen_of request.sector request.empty (held (history_of bytes disk.calls))) (Ok seen) =
         subst (λ image. Settles disk_refusal (seen_of request.sector request.empty image) (Ok seen)) (same_shown bytes disk.calls) then in
         accepted_of (accepted request.sector (held (history_of bytes disk.calls)) request.empty) seen

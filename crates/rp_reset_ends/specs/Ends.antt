@@ -45,7 +45,7 @@ pub record AreToldGoals (request : Request) (list : List Definition) (old : List
       ≡ Ok plan
 
 -- what holds of an image and both plans, whatever sources that don't tell have: a stop leaves the old table, the reset table or the
--- goal, with the bytes of each row of that which is an old one
+-- goal, and each old row in that holds its old bytes
 pub record StopsBothSafely (request : Request) (list : List Definition) (disk later : Device) (seen : Seen) (reset plan : Plan)
     (before body : List Call) (bytes : List ℕ) : Type 0 where
   pub goals : AreGoalsOf request list (held (history_of bytes disk.calls)) seen reset plan

@@ -17,7 +17,7 @@ use Rattle.rp_stops.specs.Rows.{Contents, HoldContents, grown}
 abbrev pub calls_of_both : Seen → Plan → Plan → Sources → List Call
 calls_of_both seen reset plan sources = calls reset seen sources ++ calls plan (seen_after seen reset) sources
 
--- the image between them
+-- the image between both: the old one with the reset's calls done whole
 abbrev pub image_between : List ℕ → Seen → Plan → Sources → List ℕ
 image_between old seen reset sources = all_done old (calls reset seen sources)
 
@@ -25,7 +25,7 @@ image_between old seen reset sources = all_done old (calls reset seen sources)
 abbrev pub contents_anew : List ℕ → Seen → Plan → Plan → Sources → Contents
 contents_anew old seen reset plan sources = contents plan sources (grown (image_between old seen reset sources) plan)
 
--- and an image on which they hold it
+-- the new rows of an image hold just that
 abbrev pub HoldAnew : List ℕ → Seen → Plan → Plan → Sources → List ℕ → Type 0
 HoldAnew old seen reset plan sources image = HoldContents plan (contents_anew old seen reset plan sources) image
 
@@ -34,8 +34,8 @@ HoldAnew old seen reset plan sources image = HoldContents plan (contents_anew ol
 abbrev pub HasGoalAnew : ℕ → List ℕ → Seen → List Definition → Guid → Plan → Plan → List ℕ → Type 0
 HasGoalAnew sector old seen defs seed reset plan image = HasGoal sector old (seen_after seen reset) defs seed plan image
 
--- and where the sources' contents were written, the image is the final one of the plan behind the reset on the image between both,
--- and new rows hold them
+-- and where the sources' contents were written, the image is the final one of the plan behind the reset on the image between both, and
+-- new rows hold them
 pub record IsDoneAnew (sector : ℕ) (old : List ℕ) (seen : Seen) (defs : List Definition) (seed : Guid) (reset plan : Plan)
     (sources : Sources) (image : List ℕ) : Type 0 where
   pub goal : HasGoalAnew sector old seen defs seed reset plan image
