@@ -9,3 +9,4 @@ mod tests;
 
 pub use command::check;
 pub use law::check_by_status;
+pub use printing::tell;

@@ -1,0 +1,5 @@
+mod Carried
+mod Found
+mod Rooted
+mod Started
+mod Told
