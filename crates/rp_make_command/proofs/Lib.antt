@@ -1,4 +1,5 @@
 mod Carried
+mod Ended
 mod Found
 mod Rooted
 mod Started

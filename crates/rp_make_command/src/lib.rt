@@ -5,6 +5,8 @@ mod carrying;
 mod checking;
 mod command;
 mod front;
+mod law;
 mod planning;
 
 pub use command::make;
+pub use law::make_ends;
