@@ -7,3 +7,4 @@ mod printing;
 
 pub use command::check;
 pub use law::check_by_status;
+pub use printing::tell;

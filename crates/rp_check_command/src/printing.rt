@@ -11,8 +11,8 @@ use rp_io::Sink;
 use rp_outcome::{differ, finish};
 use rp_types::Designator;
 
-/// Prints what differs, or that nothing does, and answers the exit status.
-pub(crate) fn tell<K: Sink>(out: &mut K, found: Option<Difference>) -> u8
+/// Ends a command that compares: prints what differs, or that nothing does, and answers the exit status.
+pub fn tell<K: Sink>(out: &mut K, found: Option<Difference>) -> u8
     ensures { Tells (output K.told K.faults out.old) (output K.told K.faults out.new) result (Ok found) }
 {
     match found {

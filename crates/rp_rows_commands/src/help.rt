@@ -16,6 +16,6 @@ fn with_ample_memory_help_begins_and_ends(rt: HostRuntime) -> Result<(), Fail> {
             "\n    --json=off|short\n        lines of text, or one line of JSON; off if not given\n"
         )
     );
-    assert!(rt; !text.contains("repart make"));
+    assert!(rt; text.contains("\n    repart make\n        --number=1...100\n        IMAGE\n"));
     Ok(())
 }

@@ -9,9 +9,9 @@ use Rattle.rp_words.specs.declared.fault.WordFault.TheVariants.{NoCommand, Unkno
 use Rattle.rp_words.specs.declared.line.Line.{Line}
 use Rattle.rp_words.specs.declared.table.Command.{Command}
 use Rattle.rp_words.specs.declared.table.Command.TheVariants.{Show, Dissect, Compare}
-use Rattle.rp_words.specs.declared.table.Opt.TheVariants.{Against, Definitions, FactoryReset, Json, Policy, SectorSize, Seed, Size}
+use Rattle.rp_words.specs.declared.table.Opt.TheVariants.{Against, Definitions, FactoryReset, Json, Number, Policy, SectorSize, Seed, Size}
 use Rattle.rp_words.specs.Faults.{entry_called, first_fault, missing}
-use Rattle.rp_words.specs.Help.{built_text, command_text, offered_text, option_text}
+use Rattle.rp_words.specs.Help.{command_text, option_text}
 use Rattle.rp_words.specs.Entry.{entry_of}
 use Rattle.rp_words.specs.Hint.{hint_of}
 use Rattle.rp_words.specs.Line.{arch_in, command_of, empty_in, line_of, size_of_words, text_in}
@@ -43,9 +43,25 @@ show json sector = line Show X86_64 json sector
 no_words : line_of [] ≡ Err NoCommand
 no_words = refl
 
-a_command_that_is_not_built : line_of (codes "make" ∷ codes "image" ∷ []) ≡ Err UnknownCommand
+a_command_that_there_is_not : line_of (codes "format" ∷ codes "image" ∷ []) ≡ Err UnknownCommand
 unfolding command_of commands
-a_command_that_is_not_built = refl
+a_command_that_there_is_not = refl
+
+without_a_number : line_of (codes "make" ∷ codes "image" ∷ []) ≡ Err (Missing Number)
+unfolding command_of commands first_fault missing entry_called options
+without_a_number = refl
+
+no_number_begins_with_zero : line_of (codes "make" ∷ codes "--number=07" ∷ codes "image" ∷ []) ≡ Err (BadValue 1 Number)
+unfolding command_of commands first_fault missing entry_called options
+no_number_begins_with_zero = refl
+
+no_reset_to_check : line_of (codes "check" ∷ codes "--factory-reset=on" ∷ codes "image" ∷ []) ≡ Err (OtherCommand 1)
+unfolding command_of commands first_fault missing entry_called options
+no_reset_to_check = refl
+
+a_reset_is_on_or_off : line_of (codes "plan" ∷ codes "--factory-reset=yes" ∷ codes "image" ∷ []) ≡ Err (BadValue 1 FactoryReset)
+unfolding command_of commands first_fault missing entry_called options
+a_reset_is_on_or_off = refl
 
 by_default : line_of (codes "show" ∷ codes "image" ∷ []) ≡ Ok (show false 512)
 unfolding command_of commands first_fault missing entry_called options guid_of size_of
@@ -159,14 +175,6 @@ no_json_of_a_difference : line_of (codes "check" ∷ codes "--json=off" ∷ code
 unfolding command_of commands first_fault missing entry_called options
 no_json_of_a_difference = refl
 
-no_reset_to_check : line_of (codes "check" ∷ codes "--factory-reset=on" ∷ codes "image" ∷ []) ≡ Err (OtherCommand 1)
-unfolding command_of commands first_fault missing entry_called options
-no_reset_to_check = refl
-
-a_reset_is_on_or_off : line_of (codes "plan" ∷ codes "--factory-reset=yes" ∷ codes "image" ∷ []) ≡ Err (BadValue 1 FactoryReset)
-unfolding command_of commands first_fault missing entry_called options
-a_reset_is_on_or_off = refl
-
 -- what the commands on policies want
 an_image_for_an_architecture : line_of (codes "dissect" ∷ codes "--json=short" ∷ codes "--arch=arm64" ∷ codes "image" ∷ [])
     ≡ Ok (line Dissect Arm64 true 512)
@@ -207,29 +215,21 @@ command_in_help name = option_map_or command_text (first_of (λ (entry : Command
 
 help_on_show : command_in_help (codes "show")
     ≡ codes "repart show prints the table of an image:\n\n    repart show\n        [--json=off|short]\n        [--sector-size=512|4096]\n        IMAGE\n\n"
-unfolding command_in_help commands command_text built_text options
+unfolding command_in_help commands command_text options
 help_on_show = refl
 
 help_on_compare : command_in_help (codes "compare")
     ≡ codes "repart compare tells whether a policy allows what another denies:\n\n    repart compare\n        --policy=POLICY\n        --against=POLICY\n\n"
-unfolding command_in_help commands command_text built_text options
+unfolding command_in_help commands command_text options
 help_on_compare = refl
 
 help_on_check : command_in_help (codes "check")
     ≡ codes "repart check tells whether the image is as apply leaves it:\n\n    repart check\n        --definitions=FOLDER[:FOLDER...]\n"
     ++ codes "        --seed=UUID\n        [--arch=x86-64|arm64]\n        [--sector-size=512|4096]\n        IMAGE\n\n"
-unfolding command_in_help commands command_text built_text options
+unfolding command_in_help commands command_text options
 help_on_check = refl
-
-help_on_a_command_that_is_not_built : command_in_help (codes "make") ≡ []
-unfolding command_in_help commands command_text
-help_on_a_command_that_is_not_built = refl
 
 help_on_an_option : option_map_or option_text (entry_called (codes "json")) []
     ≡ codes "    --json=off|short\n        lines of text, or one line of JSON; off if not given\n"
-unfolding commands option_text offered_text options entry_called
+unfolding option_text options entry_called
 help_on_an_option = refl
-
-help_on_an_option_of_no_built_command : option_map_or option_text (entry_called (codes "number")) [] ≡ []
-unfolding commands option_text options entry_called
-help_on_an_option_of_no_built_command = refl

@@ -1,4 +1,3 @@
-pub mod Built
 mod Commands
 mod Computed
 mod Cutting

@@ -19,9 +19,9 @@ use Rattle.rp_words.specs.Table.{CommandEntry, commands}
 use Rattle.rp_words.specs.Values.{number_in, size_in}
 use Rattle.rp_words.specs.Words.{first_of, is_image, last_of, value_in}
 
--- a command, if it is called this and is built
+-- a command, if it is called this
 abbrev pub named : List ℕ → CommandEntry → Option CommandRow
-named name entry = if bytes_eq entry.0 name && entry.1.built then Some entry.1 else None
+named name entry = if bytes_eq entry.0 name then Some entry.1 else None
 
 -- the command of a name
 unfoldable pub command_of : List ℕ → Option CommandRow

@@ -21,7 +21,7 @@ Entry = List ℕ × List ℕ × List ℕ × OptionRow × List ℕ
 abbrev pub option_entry : Bor (List ℕ) × Bor (List ℕ) × Bor (List ℕ) × OptionRow × Bor (List ℕ) → Entry
 option_entry entry = (entry.0.now, entry.1.now, entry.2.now, entry.3, entry.4.now)
 
--- the commands by name, those that aren't built yet too
+-- the commands by name
 unfoldable pub commands : List CommandEntry
 commands = map (λ entry. (entry.0.now, entry.1, entry.2.now)) COMMANDS
 

@@ -1,8 +1,8 @@
 //! What `--help` prints, from the tables of commands and options.
 
 ghost use Rattle.std.specs.Prelude.{◌≡◌, ◌++◌, IfOk, OnOk, map, string_bytes};
-ghost use Rattle.std.specs.List.{flat_map, list_any};
-ghost use Rattle.rp_words.specs.Help.{built_text, command_text, default_text, end_text, help as help_bytes, is_offered as is_offered_entry, offered_text, offers as offers_entry, option_text, usage, written};
+ghost use Rattle.std.specs.List.{flat_map};
+ghost use Rattle.rp_words.specs.Help.{command_text, default_text, end_text, help as help_bytes, option_text, usage, written};
 ghost use Rattle.rp_words.specs.Table.{command_entry, commands, option_entry, options};
 
 use crate::table::{Command, CommandEntry, OptionEntry, Use, commands, options};
@@ -28,7 +28,7 @@ manual, repart(8), and has a line that says why, but for 9, where the output
 failed, and 10, want of memory.
 ";
 
-/// What `--help` prints: each command that is built, and each option of these.
+/// What `--help` prints: each command, and each option.
 pub fn help_text(alloc: Global) -> Result<Text, Memory>
     ensures { IfOk result (λ text. text ≡ help_bytes) }
 {
@@ -67,17 +67,6 @@ fn push_each_command(text: &mut String, entries: &[CommandEntry]) -> Result<(), 
 #[tactic(auto, unfolding(crate::specs::Help::command_text))]
 fn push_command(text: &mut String, entry: &CommandEntry) -> Result<(), AllocError>
     ensures { OnOk result (string_bytes text.new ≡ string_bytes text.old ++ command_text (command_entry entry.now)) }
-{
-    if entry.1.built {
-        push_built(text, entry)
-    } else {
-        Ok(())
-    }
-}
-
-#[tactic(auto, unfolding(crate::specs::Help::built_text))]
-fn push_built(text: &mut String, entry: &CommandEntry) -> Result<(), AllocError>
-    ensures { OnOk result (string_bytes text.new ≡ string_bytes text.old ++ built_text (command_entry entry.now)) }
 {
     let (name, row, about) = *entry;
     write!(text, "repart {name} {about}:\n\n    repart {name}")?;
@@ -156,17 +145,6 @@ fn push_each_option(text: &mut String, entries: &[OptionEntry]) -> Result<(), Al
 fn push_option(text: &mut String, entry: &OptionEntry) -> Result<(), AllocError>
     ensures { OnOk result (string_bytes text.new ≡ string_bytes text.old ++ option_text (option_entry entry.now)) }
 {
-    if is_offered(entry) {
-        push_offered(text, entry)
-    } else {
-        Ok(())
-    }
-}
-
-#[tactic(auto, unfolding(crate::specs::Help::offered_text))]
-fn push_offered(text: &mut String, entry: &OptionEntry) -> Result<(), AllocError>
-    ensures { OnOk result (string_bytes text.new ≡ string_bytes text.old ++ offered_text (option_entry entry.now)) }
-{
     text.push_str("    ")?;
     push_written(text, entry)?;
     let (_, default, _, _, about) = *entry;
@@ -182,30 +160,4 @@ fn push_default(text: &mut String, default: &str) -> Result<(), AllocError>
         return Ok(());
     }
     write!(text, "; {default} if not given")
-}
-
-// Whether a command that is built has the option.
-fn is_offered(entry: &OptionEntry) -> bool
-    ensures { result ≡ is_offered_entry (option_entry entry.now) }
-{
-    is_offered_among(entry, commands())
-}
-
-// Whether a command among these is built and has the option.
-fn is_offered_among(entry: &OptionEntry, entries: &[CommandEntry]) -> bool
-    ensures { result ≡ list_any (λ command. offers_entry (option_entry entry.now) (command_entry command)) entries.now }
-{
-    for command in entries {
-        if offers(entry, command) {
-            return true;
-        }
-    }
-    false
-}
-
-fn offers(entry: &OptionEntry, command: &CommandEntry) -> bool
-    ensures { result ≡ offers_entry (option_entry entry.now) (command_entry command.now) }
-{
-    let (_, row, _) = *command;
-    row.built && entry.3.use_by(row.command) != Use::Never
 }

@@ -43,7 +43,7 @@ pub fn text_of(option: Opt, words: &[String]) -> &str
     value_or(name(option), words)
 }
 
-/// Whether words begin with a command that is built and has an image behind its options.
+/// Whether words begin with a command that has an image behind its options.
 pub fn has_image(words: &[String]) -> bool
     ensures { result ≡ words_have_image (map string_bytes words.now) }
 {
@@ -220,14 +220,10 @@ fn named_among(name: &str, entries: &[CommandEntry]) -> Option<CommandRow>
     None
 }
 
-// A command, if it is called this and is built.
+// A command, if it is called this.
 fn named(name: &str, entry: &CommandEntry) -> Option<CommandRow>
     ensures { result ≡ named_entry name.now (command_entry entry.now) }
 {
     let (own, row, _) = entry;
-    if *own == name && row.built {
-        Some(*row)
-    } else {
-        None
-    }
+    if *own == name { Some(*row) } else { None }
 }

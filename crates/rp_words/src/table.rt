@@ -38,11 +38,10 @@ pub(crate) enum Use {
     Must,
 }
 
-/// A command: whether it is built, and whether an image follows its options.
+/// A command, and whether an image follows its options.
 #[derive(Clone, Copy)]
 pub(crate) struct CommandRow {
     pub(crate) command: Command,
-    pub(crate) built: bool,
     pub(crate) image: bool,
 }
 
@@ -75,21 +74,21 @@ pub(crate) type OptionEntry = (
 
 #[rattlefmt::skip]
 pub(crate) static COMMANDS: [CommandEntry; 8] = [
-    ("show", CommandRow { command: Command::Show, built: true, image: true },
+    ("show", CommandRow { command: Command::Show, image: true },
         "prints the table of an image"),
-    ("plan", CommandRow { command: Command::Plan, built: true, image: true },
+    ("plan", CommandRow { command: Command::Plan, image: true },
         "prints what is to become of the table"),
-    ("apply", CommandRow { command: Command::Apply, built: true, image: true },
+    ("apply", CommandRow { command: Command::Apply, image: true },
         "changes the image as plan prints it"),
-    ("check", CommandRow { command: Command::Check, built: true, image: true },
+    ("check", CommandRow { command: Command::Check, image: true },
         "tells whether the image is as apply leaves it"),
-    ("dissect", CommandRow { command: Command::Dissect, built: true, image: true },
+    ("dissect", CommandRow { command: Command::Dissect, image: true },
         "prints which partitions an image policy lets be used"),
-    ("policy", CommandRow { command: Command::Policy, built: true, image: false },
+    ("policy", CommandRow { command: Command::Policy, image: false },
         "prints an image policy in its canonical form"),
-    ("make", CommandRow { command: Command::Make, built: false, image: true },
+    ("make", CommandRow { command: Command::Make, image: true },
         "makes a large image from a number, and checks it"),
-    ("compare", CommandRow { command: Command::Compare, built: true, image: false },
+    ("compare", CommandRow { command: Command::Compare, image: false },
         "tells whether a policy allows what another denies"),
 ];
 
@@ -136,7 +135,7 @@ pub(crate) static OPTIONS: [OptionEntry; 11] = [
         "the number of partitions"),
 ];
 
-/// The commands by name, those that aren't built yet too.
+/// The commands by name.
 pub(crate) fn commands() -> &'static [CommandEntry]
     ensures { map command_entry result.now ≡ commands }
 {

@@ -1,0 +1,6 @@
+mod Carried
+mod Ended
+mod Found
+mod Rooted
+mod Started
+mod Told

@@ -1,0 +1,5 @@
+pub mod Bytes
+pub mod MadeFolders
+pub mod MadeSources
+pub mod MakeInput
+pub mod Texts
