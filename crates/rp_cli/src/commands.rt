@@ -6,6 +6,8 @@ ghost use Rattle.rp_cli.specs.Holds.{Holds};
 ghost use Rattle.rp_cli.specs.Asked.{AreAsBefore, AreUnasked, ChecksAsked, PlansAsked, request_of as request_of_line};
 ghost use Rattle.rp_cli.specs.Resetting.{AppliesResetAsked, IsRenewed, IsRenewedSafely, PlansResetAsked};
 ghost use Rattle.rp_dissect_command.specs.Dissects.{Dissects};
+ghost use Rattle.rp_make_command.specs.Ends.{MakeEnds};
+ghost use Rattle.rp_make_command.specs.Makes.{Makes};
 ghost use Rattle.rp_outcome.specs.Causes.{HasCauses};
 ghost use Rattle.rp_outcome.specs.Device.{IsOnlyRead, device};
 ghost use Rattle.rp_outcome.specs.Output.{Refuses, output};
@@ -24,6 +26,7 @@ use rp_check_command::check;
 use rp_disk::Disk;
 use rp_dissect_command::dissect;
 use rp_io::{Folders, Sink, Sources};
+use rp_make_command::make;
 use rp_outcome::{Refusal, refuse};
 use rp_plan_command::plan;
 use rp_planned::Request;
@@ -103,6 +106,15 @@ pub fn run<D: Disk, F: Folders, S: Sources, K: Sink>(
         (device D.first D.calls D.faults D.strays disk.old) (device D.first D.calls D.faults D.strays disk.new)
         (store S.told S.faults S.strays sources.old) (store S.told S.faults S.strays sources.new)
         (output K.told K.faults out.old) (output K.told K.faults out.new) result) }
+    // `make` makes the input of its number, syncs the disk, grows the image to 1 GiB, carries out what is planned for it, looks for what it
+    // differs in and prints a summary; folders and sources that are handed in aren't asked.
+    ensures make { IfOk (line_of (map string_bytes words.now)) (λ line. line.command ≡ Command.Make
+        → Makes line.number
+        (device D.first D.calls D.faults D.strays disk.old) (device D.first D.calls D.faults D.strays disk.new)
+        (output K.told K.faults out.old) (output K.told K.faults out.new) result
+        × AreAsBefore
+        (store F.told F.faults F.strays folders.old) (store F.told F.faults F.strays folders.new)
+        (store S.told S.faults S.strays sources.old) (store S.told S.faults S.strays sources.new)) }
     // `dissect` reads the policy, then the image, and prints the verdict on each designator, or which one is denied.
     ensures dissect { IfOk (line_of (map string_bytes words.now)) (λ line. line.command ≡ Command.Dissect
         → Dissects (text_in Opt.Policy (map string_bytes words.now)) line.arch line.sector line.json
@@ -164,8 +176,9 @@ pub fn run<D: Disk, F: Folders, S: Sources, K: Sink>(
         → LeavesAll
         (device D.first D.calls D.faults D.strays disk.old) (device D.first D.calls D.faults D.strays disk.new)) }
 
-    // Every command but `apply` only reads: no call may change the disk.
-    ensures only_read { IfOk (line_of (map string_bytes words.now)) (λ line. line.command ≢ Command.Apply) → IsOnlyRead
+    // Every command but `apply` and `make` only reads: no call may change the disk.
+    ensures only_read { IfOk (line_of (map string_bytes words.now)) (λ line. (line.command ≢ Command.Apply) × (line.command ≢ Command.Make))
+        → IsOnlyRead
         (device D.first D.calls D.faults D.strays disk.old) (device D.first D.calls D.faults D.strays disk.new) }
     // Status 7 comes only where the disk counted a failed call, and at each other status it counted none; 9 comes only where the sink
     // counted one, and at 0 it counted none.
@@ -187,9 +200,8 @@ pub fn run<D: Disk, F: Folders, S: Sources, K: Sink>(
             Command::Check => run_check(alloc, line, words, disk, folders, sources, out),
             Command::Dissect => run_dissect(alloc, line, words, disk, out),
             Command::Policy => run_policy(alloc, words, out),
+            Command::Make => run_make(alloc, line.number, disk, out),
             Command::Compare => run_compare(alloc, words, out),
-            // No line asks for a command that isn't built yet.
-            _ => refuse(out, &Refusal::words()),
         },
     }
 }
@@ -360,6 +372,17 @@ fn run_dissect<D: Disk, K: Sink>(
 {
     let text = text_of(Opt::Policy, words);
     dissect(alloc, text, line.arch, line.sector, line.json, disk, out)
+}
+
+fn run_make<D: Disk, K: Sink>(alloc: Global, number: u8, disk: &mut D, out: &mut K) -> u8
+    ensures makes { Makes number
+        (device D.first D.calls D.faults D.strays disk.old) (device D.first D.calls D.faults D.strays disk.new)
+        (output K.told K.faults out.old) (output K.told K.faults out.new) result }
+    ensures ends { MakeEnds
+        (device D.first D.calls D.faults D.strays disk.old) (device D.first D.calls D.faults D.strays disk.new)
+        (output K.told K.faults out.old) (output K.told K.faults out.new) result }
+{
+    make(alloc, number, disk, out)
 }
 
 fn run_policy<K: Sink>(alloc: Global, words: &[String], out: &mut K) -> u8

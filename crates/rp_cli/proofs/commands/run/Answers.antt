@@ -1,14 +1,13 @@
-use Rattle.std.proofs.Common.{inl, inr, map, string_bytes, subst, sym, true≢false}
+use Rattle.std.proofs.Common.{map, refl, string_bytes, subst, sym, true≢false}
 use Rattle.std.specs.Prelude.{◌≢◌, IfOk, IsErr}
 use Rattle.rp_cli.proofs.Policies.{compare_causes, compare_files, compare_words, dissect_causes, dissect_files, policy_causes, policy_files}
 use Rattle.rp_cli.proofs.Promised.{check_causes, check_files, check_only_read, check_words}
 use Rattle.rp_outcome.specs.Device.{device}
 use Rattle.rp_outcome.specs.Output.{output}
 use Rattle.rp_outcome.specs.Store.{store}
-use Rattle.rp_words.proofs.Built.{asks_for}
 use Rattle.rp_words.specs.Line.{text_in}
 use Rattle.rp_words.specs.Values.{paths_of}
-use Rattle.rp_words.specs.declared.table.Command.TheVariants.{Apply}
+use Rattle.rp_words.specs.declared.table.Command.TheVariants.{Apply, Make}
 use Rattle.rp_words.specs.declared.table.Opt.TheVariants.{Against, Definitions, Policy}
 use Rattle.rp_cli.proofs.commands.run.Goals as goal
 
@@ -171,17 +170,25 @@ returns-in-Apply-clause-words g c = (
 
 pub returns-in-Apply-clause-only_read : goal.returns-in-Apply-clause-only_read
 returns-in-Apply-clause-only_read g c =
-    λ other. absurd (subst (λ answer. IfOk answer (λ line. line.command ≢ Apply)) (sym c.in-Ok.ensures.line) other c.in-Apply.is)
+    λ other.
+    absurd ((subst (λ answer. IfOk answer (λ line. (line.command ≢ Apply) × (line.command ≢ Make))) (sym c.in-Ok.ensures.line) other).0
+    c.in-Apply.is)
 
--- no line asks for another command
-pub returns-in_default : goal.returns-in_default
-returns-in_default g c = elim (asks_for (map string_bytes c.args.words.now) c.in-Ok.line (sym c.in-Ok.ensures.line)) [
-  | inl show ↦ absurd (c.in_default.not-Show show)
-  | inr (inl plan) ↦ absurd (c.in_default.not-Plan plan)
-  | inr (inr (inl apply)) ↦ absurd (c.in_default.not-Apply apply)
-  | inr (inr (inr (inl check))) ↦ absurd (c.in_default.not-Check check)
-  | inr (inr (inr (inr (inl dissect)))) ↦ absurd (c.in_default.not-Dissect dissect)
-  | inr (inr (inr (inr (inr (inl policy))))) ↦ absurd (c.in_default.not-Policy policy)
-  | inr (inr (inr (inr (inr (inr (inl compare)))))) ↦ absurd (c.in_default.not-Compare compare)
-  | inr (inr (inr (inr (inr (inr (inr none)))))) ↦ absurd none
-]
+-- `make` says of itself what holds of every command, and asks no folders and sources
+pub returns-in-Make-clause-causes : goal.returns-in-Make-clause-causes
+returns-in-Make-clause-causes g c = c.run_make.ensures.ends.causes
+
+pub returns-in-Make-clause-files : goal.returns-in-Make-clause-files
+returns-in-Make-clause-files g c = record { failed = λ e. absurd (c.run_make.ensures.ends.files e); kept = λ e. (refl, refl) }
+
+pub returns-in-Make-clause-words : goal.returns-in-Make-clause-words
+returns-in-Make-clause-words g c = (
+  λ e. absurd (c.run_make.ensures.ends.words e),
+  λ err. absurd (true≢false (sym (subst (λ answer. IsErr answer) (sym c.in-Ok.ensures.line) err))),
+)
+
+pub returns-in-Make-clause-only_read : goal.returns-in-Make-clause-only_read
+returns-in-Make-clause-only_read g c =
+    λ other.
+    absurd ((subst (λ answer. IfOk answer (λ line. (line.command ≢ Apply) × (line.command ≢ Make))) (sym c.in-Ok.ensures.line) other).1
+    c.in-Make.is)

@@ -1,0 +1,12 @@
+use Rattle.rp_make_command.proofs.Ended.{ends_so}
+use Rattle.rp_outcome.specs.Device.{device}
+use Rattle.rp_outcome.specs.Output.{output}
+use Rattle.rp_cli.proofs.commands.run_make.Goals as goal
+
+pub returns-clause-ends : goal.returns-clause-ends
+returns-clause-ends g c =
+    ends_so (device g.D.Disk.first g.D.Disk.calls g.D.Disk.faults g.D.Disk.strays c.args.disk.now)
+    (device g.D.Disk.first g.D.Disk.calls g.D.Disk.faults g.D.Disk.strays c.make.new.disk)
+    (output g.K.Sink.told g.K.Sink.faults c.args.out.now)
+    (output g.K.Sink.told g.K.Sink.faults c.make.new.out)
+    c.make.result c.args.number c.make.ensures
