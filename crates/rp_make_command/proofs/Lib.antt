@@ -1,4 +1,6 @@
+mod Asked
 mod Carried
+mod Copied
 mod Ended
 mod Found
 mod Rooted
