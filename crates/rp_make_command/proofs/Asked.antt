@@ -65,10 +65,10 @@ module _ (request : Request) (list : List Definition) (files : List Stored) (eac
       → drained.strays ≡ sources.strays
   by_asks table known asks = go (subst (λ (o : Option (List Stored)). IfSome o (λ files. (drained.strays ≡ sources.strays)
       ⊎ ((known ≡ Err source_refusal) × Any (IsMissing files list) (wanted_of table list)))) told asks.strays) where
-    go : (drained.strays ≡ sources.strays) ⊎ ((known ≡ Err source_refusal) × Any (IsMissing files list) (wanted_of table list))
-        → drained.strays ≡ sources.strays
-    go (inl same) = same
-    go (inr (failed, missing)) = absurd (none_missing table missing)
+        go : (drained.strays ≡ sources.strays) ⊎ ((known ≡ Err source_refusal) × Any (IsMissing files list) (wanted_of table list))
+            → drained.strays ≡ sources.strays
+        go (inl same) = same
+        go (inr (failed, missing)) = absurd (none_missing table missing)
 
   unless : (b : Bool) (seen : Seen) (answer : Result Planned Refusal) → PlansUnless b request list seen sources drained answer
       → drained.strays ≡ sources.strays

@@ -6,3 +6,4 @@ mod Found
 mod Rooted
 mod Started
 mod Told
+mod Unfailed

@@ -1,3 +1,3 @@
 mod Spelled
 mod Tried
-mod Known
+pub mod Known
