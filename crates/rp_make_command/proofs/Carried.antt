@@ -1,10 +1,18 @@
 -- What a stage answers, by its call.
-use Rattle.std.proofs.Common.{◌≡◌, ◌∙◌, List, Bool, true, false, Result, Ok, Err, refl, sym, ap, subst, inl, inr}
+use Rattle.std.proofs.Common.{◌≡◌, ◌∙◌, ℕ, All, IfSome, List, Bool, true, false, Result, Ok, Err, refl, sym, ap, subst, inl, inr}
+use Rattle.rp_apply.specs.Ready.{IsReadyFor}
+use Rattle.rp_apply.specs.Sourced.{paths_of}
+use Rattle.rp_apply.specs.declared.ready.Ready.{Ready}
 use Rattle.rp_apply_command.specs.Applies.{Outcome}
 use Rattle.rp_apply_command.proofs.Carried.{outcome_of as told_outcome, refusal_of as told_refusal}
 use Rattle.rp_apply_command.proofs.Goals.{goal_by}
 use Rattle.rp_defs.specs.declared.definition.Definition.{Definition}
+use Rattle.rp_base.specs.declared.plan.Plan.{Plan}
 use Rattle.rp_base.specs.declared.seen.Seen.{Seen}
+use Rattle.rp_defs.specs.declared.definition.Definitions.{Definitions}
+use Rattle.rp_step.specs.Found.{HasFile}
+use Rattle.rp_steps.specs.Steps.{steps}
+use Rattle.rp_steps.specs.declared.step.Step.{Step}
 use Rattle.rp_gpt.specs.Accepted.{IsSeen}
 use Rattle.rp_io.specs.declared.stored.Stored.{Stored}
 use Rattle.rp_outcome.specs.Device.{Device}
@@ -17,7 +25,7 @@ use Rattle.rp_planned.specs.declared.request.Request.{Request}
 use Rattle.rp_sizes.specs.declared.need.Fact.{Fact}
 use Rattle.rp_step.specs.declared.fault.ApplyFault.{ApplyFault}
 use Rattle.rp_step.specs.declared.fault.ApplyFault.TheVariants.{DiskFault, SourceFault, SourceChanged}
-use Rattle.rp_make_command.specs.Makes.{outcome_of, refusal_of}
+use Rattle.rp_make_command.specs.Makes.{SourcesStay, outcome_of, refusal_of}
 
 same_refusal : (fault : ApplyFault) → told_refusal fault ≡ refusal_of fault
 same_refusal DiskFault = refl
@@ -31,6 +39,18 @@ as_done result value is = ap told_outcome is
 pub as_refused : {T : Type 0} (result : Result T ApplyFault) (fault : ApplyFault) → result ≡ Err fault
     → told_outcome result ≡ Err (refusal_of fault)
 as_refused result fault is = ap told_outcome is ∙ ap (λ (r : Refusal). Err r) (same_refusal fault)
+
+-- what is said of a plan that can be carried out is said of the plan
+pub stays : (definitions : Definitions) (planned : Planned) (before now : Store (List Stored)) (ready : Ready)
+    → IsReadyFor planned.plan planned.seen definitions.list ready
+    → IfSome before.told (λ files. All (HasFile files ready.paths) ready.steps → now.strays ≡ before.strays)
+    → SourcesStay definitions planned before now
+stays definitions planned before now ready is =
+    let P : List (List ℕ) → List Step → Type 0 = λ paths taken. IfSome before.told (λ files. All (HasFile files paths) taken → now.strays ≡ before.strays) in
+    let taken : ready.steps ≡ steps planned.plan planned.seen =
+    is.ready_is.steps ∙ ap (λ (p : Plan). steps p ready.seen) is.plan_is ∙ ap (λ (s : Seen). steps planned.plan s) is.seen_is in
+    λ stays. subst (λ (l : List Step). P (paths_of definitions.list) l) taken
+    (subst (λ (paths : List (List ℕ)). P paths ready.steps) is.paths_are stays)
 
 -- what was seen of the image for which something is planned
 module _ (request : Request) (list : List Definition) (disk later : Device) (sources drained : Store (List Stored)) (planned : Planned) where

@@ -1,6 +1,9 @@
+mod Asked
 mod Carried
+mod Copied
 mod Ended
 mod Found
 mod Rooted
 mod Started
 mod Told
+mod Unfailed

@@ -1,6 +1,7 @@
 -- What `make` does, stage by stage: the input is made and its definitions are read, the disk is synced, the image is looked at and
 -- grown, it is planned for, the plan is carried out, and what the image differs in is looked for and told.
-use Rattle.std.specs.Prelude.{ℕ, ◌≡◌, ◌⊎◌, List, Option, Some, Result, Ok, Err, IfOk}
+use Rattle.std.specs.Prelude.{ℕ, ◌≡◌, ◌⊎◌, List, All, Option, Some, Result, Ok, Err, IfOk, IfSome}
+use Rattle.rp_apply.specs.Sourced.{paths_of}
 use Rattle.rp_apply_command.specs.Applies.{CarriesOut, Opens, Outcome, PlanFits}
 use Rattle.rp_base.specs.declared.faults.Failed.{Failed}
 use Rattle.rp_base.specs.declared.guid.Guid.{Guid}
@@ -24,8 +25,10 @@ use Rattle.rp_planned.specs.Planning.{PlansImage}
 use Rattle.rp_planned.specs.declared.planned.Planned.{Planned}
 use Rattle.rp_planned.specs.declared.request.Request.{Request}
 use Rattle.rp_reading.specs.Reading.{ReadsDefinitions}
+use Rattle.rp_step.specs.Found.{HasFile}
 use Rattle.rp_step.specs.declared.fault.ApplyFault.{ApplyFault}
 use Rattle.rp_step.specs.declared.fault.ApplyFault.TheVariants.{DiskFault, SourceFault, SourceChanged}
+use Rattle.rp_steps.specs.Steps.{steps}
 use Rattle.rp_types.specs.declared.arch.Arch.TheVariants.{X86_64}
 
 -- what is planned for: an image that shows no table, and keeps its length
@@ -92,12 +95,17 @@ MakesCheckedBehind number seed definitions planned disk later sources drained ou
 MakesCheckedBehind number seed definitions planned disk later sources drained out after status (Ok done) =
     MakesChecked seed (front_text number planned) definitions disk later sources drained out after status
 
+-- no source is asked for what it lacks, where each copy has its file
+abbrev pub SourcesStay : Definitions → Planned → Store (List Stored) → Store (List Stored) → Type 0
+SourcesStay definitions planned before now = IfSome before.told (λ files.
+    All (HasFile files (paths_of definitions.list)) (steps planned.plan planned.seen) → now.strays ≡ before.strays)
+
 -- the memory for carrying out and for the front of the summary was there, and the plan was carried out
 abbrev pub MakesCarried : ℕ → Guid → Definitions → Planned → Device → Device → Store (List Stored) → Store (List Stored) → Output
     → Output → ℕ → Type 0
 MakesCarried number seed definitions planned disk later sources drained out after status =
     (calls : List Call) × (made : Device) × (left : Store (List Stored)) × (answer : Outcome)
-    × CarriesOut definitions planned disk made sources left calls answer
+    × CarriesOut definitions planned disk made sources left calls answer × SourcesStay definitions planned sources left
     × MakesCheckedBehind number seed definitions planned made later left drained out after status answer
 
 -- what is planned is carried out, unless there was no memory for it

@@ -4,7 +4,7 @@ ghost use Rattle.rp_apply_command.specs.Applies.{CarriesOut};
 ghost use Rattle.rp_apply_command.specs.Carrying.{HasSeenLength, HasToldRoots};
 ghost use Rattle.rp_defs.specs.declared.definition.Definitions.{Definitions};
 ghost use Rattle.rp_disk.specs.declared.call.Call.{Call};
-ghost use Rattle.rp_make_command.specs.Makes.{outcome_of, refusal_of};
+ghost use Rattle.rp_make_command.specs.Makes.{SourcesStay, outcome_of, refusal_of};
 ghost use Rattle.rp_outcome.specs.Device.{device};
 ghost use Rattle.rp_outcome.specs.Output.{Refuses, output};
 ghost use Rattle.rp_outcome.specs.Store.{store};
@@ -28,7 +28,8 @@ pub(crate) fn carry_out<D: Disk, S: Sources>(
         (device D.first D.calls D.faults D.strays disk.old) (store S.told S.faults S.strays sources.old)
         → (calls : List Call) × CarriesOut definitions planned
         (device D.first D.calls D.faults D.strays disk.old) (device D.first D.calls D.faults D.strays disk.new)
-        (store S.told S.faults S.strays sources.old) (store S.told S.faults S.strays sources.new) calls (outcome_of result) }
+        (store S.told S.faults S.strays sources.old) (store S.told S.faults S.strays sources.new) calls (outcome_of result)
+        × SourcesStay definitions planned (store S.told S.faults S.strays sources.old) (store S.told S.faults S.strays sources.new) }
 {
     match commit(ready, disk, sources) {
         Ok(_) => Ok(()),

@@ -9,4 +9,4 @@ mod law;
 mod planning;
 
 pub use command::make;
-pub use law::make_ends;
+pub use law::{make_ends, make_never_fails_in_memory};

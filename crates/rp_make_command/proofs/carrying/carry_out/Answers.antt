@@ -3,7 +3,7 @@ use Rattle.rp_outcome.specs.Device.{device}
 use Rattle.rp_outcome.specs.Store.{store}
 use Rattle.rp_apply_command.specs.Applies.{CarriesOut, Outcome}
 use Rattle.rp_apply_command.proofs.Carried.{carries}
-use Rattle.rp_make_command.proofs.Carried.{as_done, as_refused}
+use Rattle.rp_make_command.proofs.Carried.{as_done, as_refused, stays}
 use Rattle.rp_make_command.proofs.carrying.carry_out.Goals as goal
 
 pub returns-in-Ok : goal.returns-in-Ok
@@ -15,7 +15,7 @@ returns-in-Ok g c = λ definitions planned is long roots.
     let e = c.commit.ensures in
     let r = carries definitions planned old new from to c.args.ready is long roots c.commit.result
     e.first e.told e.made e.disk_cause e.source_cause e.disk_strays in
-    (r.0, subst (λ (a : Outcome). CarriesOut definitions planned old new from to r.0 a) (as_done c.commit.result c.in-Ok.field-0 c.in-Ok.is) r.1)
+    (r.0, subst (λ (a : Outcome). CarriesOut definitions planned old new from to r.0 a) (as_done c.commit.result c.in-Ok.field-0 c.in-Ok.is) r.1, stays definitions planned from to c.args.ready is e.source_strays)
 
 pub returns-in-Err : goal.returns-in-Err
 returns-in-Err g c = λ definitions planned is long roots.
@@ -26,4 +26,4 @@ returns-in-Err g c = λ definitions planned is long roots.
     let e = c.commit.ensures in
     let r = carries definitions planned old new from to c.args.ready is long roots c.commit.result
     e.first e.told e.made e.disk_cause e.source_cause e.disk_strays in
-    (r.0, subst (λ (a : Outcome). CarriesOut definitions planned old new from to r.0 a) (as_refused c.commit.result c.in-Err.fault c.in-Err.is) r.1)
+    (r.0, subst (λ (a : Outcome). CarriesOut definitions planned old new from to r.0 a) (as_refused c.commit.result c.in-Err.fault c.in-Err.is) r.1, stays definitions planned from to c.args.ready is e.source_strays)

@@ -1,0 +1,3 @@
+mod Spelled
+mod Tried
+pub mod Known

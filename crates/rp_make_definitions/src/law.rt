@@ -1,0 +1,10 @@
+//! What the files of each number say, as the contract of a function that does nothing.
+
+ghost use Rattle.std.specs.Prelude.{ℕ, ◌≤◌};
+ghost use Rattle.rp_make_definitions.specs.Made.{HasDefinitions};
+
+/// The definition files of each number of 1 to 100 are a list of definitions: as many as the number and two, none of which may
+/// be dropped, or has a source but the one of the number.
+pub fn each_number_has_definitions()
+    ensures { (number : ℕ) → 1 ≤ number → number ≤ 100 → HasDefinitions number }
+{}
