@@ -381,6 +381,7 @@ fn run_make<D: Disk, K: Sink>(alloc: Global, number: u8, disk: &mut D, out: &mut
     ensures ends { MakeEnds
         (device D.first D.calls D.faults D.strays disk.old) (device D.first D.calls D.faults D.strays disk.new)
         (output K.told K.faults out.old) (output K.told K.faults out.new) result }
+    ensures files { number ≤ 100 → result ≢ 8 }
 {
     make(alloc, number, disk, out)
 }

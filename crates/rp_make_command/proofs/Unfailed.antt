@@ -168,9 +168,9 @@ module _ (number : ℕ) (disk later : Device) (out after : Output) (status : ℕ
   by_reading read refusal none cause (inr (inr e)) refuses =
       refused_by refusal 10 refuses (ap (λ (r : Refusal). r.status) e) (λ f. omega (arith, f))
 
-  module _ (low : 1 ≤ number) (high : number ≤ 100) where
+  module _ (high : number ≤ 100) where
     has : HasDefinitions number
-    has = has_definitions number low high
+    has = has_definitions number high
 
     by_definitions : (read : Store Tree) (answer : Result Definitions Refusal)
         → ReadsDefinitions X86_64 folders_of (made_store (tree_for number)) read answer → FailsAstray read

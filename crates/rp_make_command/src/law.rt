@@ -13,8 +13,8 @@ pub fn make_ends()
         → Makes number disk later out after status → MakeEnds disk later out after status }
 {}
 
-/// Folders and sources that are made never fail: of numbers of 1 to 100 no run ends with their status.
+/// Folders and sources that are made never fail: of numbers of at most 100 no run ends with their status.
 pub fn make_never_fails_in_memory()
-    ensures { (number : ℕ) (disk later : Device) (out after : Output) (status : ℕ) → 1 ≤ number → number ≤ 100
+    ensures { (number : ℕ) (disk later : Device) (out after : Output) (status : ℕ) → number ≤ 100
         → Makes number disk later out after status → status ≢ exit.files }
 {}

@@ -15,7 +15,7 @@ use Rattle.rp_reading.specs.Reading.{definitions_in}
 use Rattle.rp_types.specs.declared.arch.Arch.TheVariants.{X86_64}
 use Rattle.rp_make_definitions.specs.Made.{HasDefinitions, IsMade}
 use Rattle.rp_make_definitions.proofs.Spelled.{tree, tree_is}
-use Rattle.rp_make_definitions.proofs.Tried.{is_made, is_raw, is_right, is_zero, right, right_behind, tried_0, tried_10, tried_20, tried_30, tried_40, tried_50, tried_60, tried_70, tried_80, tried_90}
+use Rattle.rp_make_definitions.proofs.Tried.{is_made, is_raw, is_right, is_zero, right, right_behind, tried_none, tried_0, tried_10, tried_20, tried_30, tried_40, tried_50, tried_60, tried_70, tried_80, tried_90}
 
 both : (a b : Bool) → (a && b) ≡ true → (a ≡ true) × (b ≡ true)
 both true b is = (refl, is)
@@ -42,11 +42,14 @@ ten first number is low rest = by (leb number (first + 10)) refl where
   by true e = behind first 10 number is low (leb-true number (first + 10) e)
   by false e = let above = leb-false number (first + 10) e in rest (omega (arith, above))
 
-is_right_all : (number : ℕ) → 1 ≤ number → number ≤ 100 → Right number
-is_right_all number low high =
-    ten 0 number tried_0 low (λ a. ten 10 number tried_10 a (λ b. ten 20 number tried_20 b (λ c. ten 30 number tried_30 c (λ d.
-    ten 40 number tried_40 d (λ e. ten 50 number tried_50 e (λ f. ten 60 number tried_60 f (λ g. ten 70 number tried_70 g (λ h.
-    ten 80 number tried_80 h (λ i. ten 90 number tried_90 i (λ j. absurd (omega (arith, high, j))))))))))))
+is_right_all : (number : ℕ) → number ≤ 100 → Right number
+is_right_all zero high = tried_none
+is_right_all (suc n) high = from_one (suc n) (omega arith) high where
+  from_one : (number : ℕ) → 1 ≤ number → number ≤ 100 → Right number
+  from_one number low high =
+      ten 0 number tried_0 low (λ a. ten 10 number tried_10 a (λ b. ten 20 number tried_20 b (λ c. ten 30 number tried_30 c (λ d.
+      ten 40 number tried_40 d (λ e. ten 50 number tried_50 e (λ f. ten 60 number tried_60 f (λ g. ten 70 number tried_70 g (λ h.
+      ten 80 number tried_80 h (λ i. ten 90 number tried_90 i (λ j. absurd (omega (arith, high, j))))))))))))
 
 zero_is : (z : ℤ) → is_zero z ≡ true → z ≡ pos 0
 zero_is (pos zero) is = refl
@@ -73,9 +76,9 @@ by_answer number (Ok definitions) is =
 by_answer number (Err refusal) is = absurd (cc)
 
 -- each number has definitions
-pub has_definitions : (number : ℕ) → 1 ≤ number → number ≤ 100 → HasDefinitions number
-has_definitions number low high =
-    let found = by_answer number (definitions_in X86_64 (tree number) folders_of) (is_right_all number low high) in record {
+pub has_definitions : (number : ℕ) → number ≤ 100 → HasDefinitions number
+has_definitions number high =
+    let found = by_answer number (definitions_in X86_64 (tree number) folders_of) (is_right_all number high) in record {
       definitions = found.0;
       are = ap (λ (t : Tree). definitions_in X86_64 t folders_of) (tree_is number (omega arith)) ∙ found.1;
       count = found.2;

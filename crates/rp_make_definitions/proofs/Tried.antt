@@ -43,6 +43,10 @@ abbrev pub right_behind : ℕ → ℕ → Bool
 right_behind first zero = true
 right_behind first (suc count) = right (first + suc count) && right_behind first count
 
+pub tried_none : right 0 ≡ true
+unfolding records stated_by groups_of is_utf8 chars kind_of weight_of size_of path_of expanded by_name types lib.Utf8.encode
+tried_none = refl
+
 pub tried_0 : right_behind 0 10 ≡ true
 unfolding records stated_by groups_of is_utf8 chars kind_of weight_of size_of path_of expanded by_name types lib.Utf8.encode
 tried_0 = refl

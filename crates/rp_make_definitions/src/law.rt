@@ -3,8 +3,8 @@
 ghost use Rattle.std.specs.Prelude.{ℕ, ◌≤◌};
 ghost use Rattle.rp_make_definitions.specs.Made.{HasDefinitions};
 
-/// The definition files of each number of 1 to 100 are a list of definitions: as many as the number and two, none of which may
+/// The definition files of each number of at most 100 are a list of definitions: as many as the number and two, none of which may
 /// be dropped, or has a source but the one of the number.
 pub fn each_number_has_definitions()
-    ensures { (number : ℕ) → 1 ≤ number → number ≤ 100 → HasDefinitions number }
+    ensures { (number : ℕ) → number ≤ 100 → HasDefinitions number }
 {}

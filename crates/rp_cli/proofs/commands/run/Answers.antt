@@ -1,5 +1,6 @@
 use Rattle.std.proofs.Common.{map, refl, string_bytes, subst, sym, true≢false}
 use Rattle.std.specs.Prelude.{◌≢◌, IfOk, IsErr}
+use Rattle.rp_cli.proofs.Numbered.{number_most}
 use Rattle.rp_cli.proofs.Policies.{compare_causes, compare_files, compare_words, dissect_causes, dissect_files, policy_causes, policy_files}
 use Rattle.rp_cli.proofs.Promised.{check_causes, check_files, check_only_read, check_words}
 use Rattle.rp_outcome.specs.Device.{device}
@@ -179,7 +180,10 @@ pub returns-in-Make-clause-causes : goal.returns-in-Make-clause-causes
 returns-in-Make-clause-causes g c = c.run_make.ensures.ends.causes
 
 pub returns-in-Make-clause-files : goal.returns-in-Make-clause-files
-returns-in-Make-clause-files g c = record { failed = λ e. absurd (c.run_make.ensures.ends.files e); kept = λ e. (refl, refl) }
+returns-in-Make-clause-files g c = record {
+  failed = λ e. absurd (c.run_make.ensures.files (number_most (map string_bytes c.args.words.now) c.in-Ok.line (sym c.in-Ok.ensures.line)) e);
+  kept = λ e. (refl, refl);
+}
 
 pub returns-in-Make-clause-words : goal.returns-in-Make-clause-words
 returns-in-Make-clause-words g c = (
