@@ -1,4 +1,4 @@
-ghost use Rattle.std.specs.Prelude.{◌≡◌, ◌≢◌, ◌↔◌, IfOk, IsErr, false, map, string_bytes, true};
+ghost use Rattle.std.specs.Prelude.{◌≤◌, ◌≡◌, ◌≢◌, ◌↔◌, IfOk, IsErr, false, map, string_bytes, true};
 ghost use Rattle.rp_apply_command.specs.Ends.{LeavesAll};
 ghost use Rattle.rp_base.specs.Geometry.{IsSector};
 ghost use Rattle.rp_cli.specs.Applied.{AppliesAsked, IsApplied, IsDone, IsRefusedBefore, IsSafeThroughout, WritesNothingIdle};

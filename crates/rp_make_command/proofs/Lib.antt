@@ -1,9 +1,9 @@
 mod Asked
 mod Carried
 mod Copied
-mod Ended
+pub mod Ended
 mod Found
 mod Rooted
 mod Started
 mod Told
-mod Unfailed
+pub mod Unfailed
