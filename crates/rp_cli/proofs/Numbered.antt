@@ -5,7 +5,6 @@ use Rattle.std.specs.Option.{unwrap_or}
 use Rattle.std.proofs.lemmas.Bool.{leb-true}
 use Rattle.rp_values.specs.Numbers.{at_most, number_of}
 use Rattle.rp_words.specs.declared.line.Line.{Line}
-use Rattle.rp_words.specs.declared.table.CommandRow.{CommandRow}
 use Rattle.rp_words.specs.declared.fault.WordFault.{WordFault}
 use Rattle.rp_words.specs.declared.fault.WordFault.TheVariants.{Missing, NoImage}
 use Rattle.rp_words.specs.Faults.{first_fault, missing}
@@ -27,7 +26,7 @@ number_is text = go (slice_index text 0 == 48) where
   go true = omega arith
   go false = at_most_is (number_of text)
 
-behind_row : (row : CommandRow) (words : List (List ℕ)) (line : Line) → line_with row words ≡ Ok line → line.number ≤ 100
+behind_row : (row : _) (words : List (List ℕ)) (line : Line) → line_with row words ≡ Ok line → line.number ≤ 100
 behind_row row words line e =
     go (first_fault row.command (options_in row.image words)) (option_map (λ option. Missing option) (missing row.command words))
     (row.image && not (is_image (last_of words))) e where
@@ -44,6 +43,6 @@ behind_row row words line e =
 pub number_most : (words : List (List ℕ)) (line : Line) → line_of words ≡ Ok line → line.number ≤ 100
 number_most [] line e = absurd (cc)
 number_most (name ∷ words) line e = go (command_of name) e where
-  go : (found : Option CommandRow) → line_behind found words ≡ Ok line → line.number ≤ 100
+  go : (found : _) → line_behind found words ≡ Ok line → line.number ≤ 100
   go None e = absurd (cc)
   go (Some row) e = behind_row row words line e
