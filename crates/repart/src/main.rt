@@ -52,12 +52,14 @@ fn print_help(rt: &HostRuntime) -> u8 {
     }
 }
 
-// Does what the words ask for. The image is opened for reading alone, but by the one command that changes it. How far long
+// Does what the words ask for. The image is opened for reading alone, but by the commands that change it. How far long
 // work is shows on standard error, where that is a terminal.
 fn run_words(rt: &HostRuntime, words: &[String]) -> u8 {
     let path = image_of(rt, words);
     let disk = match read_line(words) {
-        Ok(line) if line.command == Command::Apply => FileDisk::open(rt, path),
+        Ok(line) if matches!(line.command, Command::Apply | Command::Make) => {
+            FileDisk::open(rt, path)
+        }
         _ => FileDisk::open_to_read(rt, path),
     };
     let meter = Meter::new(rt, rt.stderr().is_terminal());
