@@ -42,7 +42,8 @@ root_over plan sources at blocks salt = root_hash salt (cut blocks (payload_at p
 
 -- a new row that holds a tree is planned with the root hash of its partner's contents
 abbrev pub HasPlannedRoot : Plan → Sources → Role → Type 0
-HasPlannedRoot plan sources (Hash partner blocks salt uuid root) = root_over plan sources (byte_of_slot plan.goal.rows partner) blocks salt ≡ root
+HasPlannedRoot plan sources (Hash partner blocks salt uuid root) =
+    root_over plan sources (byte_of_slot plan.goal.rows partner) blocks salt ≡ root
 HasPlannedRoot plan sources other = ⊤
 
 abbrev pub HavePlannedRoots : Plan → Sources → Type 0
@@ -85,8 +86,10 @@ IsComplete ready files first old disk_before disk_now sources_before sources_now
 -- where the plan fits the image, and nothing was pending: the bytes shown are the final image, and nothing is pending
 abbrev pub EndsFinal : Ready → List Stored → Option (List ℕ) → List Made → List Made → Type 0
 EndsFinal ready files first old new = IfSome first (λ bytes.
-    (sector : ℕ) (empty : Empty) → IsPlanFor sector (held (history_of bytes old)) empty ready.seen ready.plan → IsSettled (history_of bytes old)
-    → IsFinal (held (history_of bytes old)) ready.seen ready.plan (contents ready.plan (sources_of ready files) (grown (held (history_of bytes old)) ready.plan)) (held (history_of bytes new))
+    (sector : ℕ) (empty : Empty) → IsPlanFor sector (held (history_of bytes old)) empty ready.seen ready.plan
+    → IsSettled (history_of bytes old)
+    → IsFinal (held (history_of bytes old)) ready.seen ready.plan
+    (contents ready.plan (sources_of ready files) (grown (held (history_of bytes old)) ready.plan)) (held (history_of bytes new))
     × IsSettled (history_of bytes new))
 
 -- where the plan fits the image, and nothing was pending: an image that a stop at any moment since might have left, and that
@@ -94,8 +97,10 @@ EndsFinal ready files first old new = IfSome first (λ bytes.
 -- the sources tell, the new rows hold their contents where the goal is shown (the image is safe)
 abbrev pub AnyMomentIsSafe : Ready → Option (List Stored) → Option (List ℕ) → List Made → List Made → Type 0
 AnyMomentIsSafe ready told first old new = IfSome first (λ bytes.
-    (sector : ℕ) (empty : Empty) → IsPlanFor sector (held (history_of bytes old)) empty ready.seen ready.plan → IsSettled (history_of bytes old)
+    (sector : ℕ) (empty : Empty) → IsPlanFor sector (held (history_of bytes old)) empty ready.seen ready.plan
+    → IsSettled (history_of bytes old)
     → (body : List Call) × Each (IsInNewRow ready.plan) body
     × IfSome told (λ files. body ≡ contents_calls ready.plan (sources_of ready files)) × ((made : List Call) (image : List ℕ)
-    → LeftSince (history_of bytes new) (moment (history_of bytes old)) made image → IsTornHonest sector (held (history_of bytes old)) made image
+    → LeftSince (history_of bytes new) (moment (history_of bytes old)) made image
+    → IsTornHonest sector (held (history_of bytes old)) made image
     → StopsAlone sector (held (history_of bytes old)) ready.seen ready.plan body image))

@@ -19,7 +19,8 @@ abbrev pub NamesPath : List (List ℕ) → Step → Type 0
 NamesPath paths (Copy file at len) = file < length paths
 NamesPath paths other = ⊤
 
--- its plan is well formed for what was seen, with numbers within their fields, its steps are those of the plan, each source has its path, all blocks are lent,
+-- its plan is well formed for what was seen, with numbers within their fields, its steps are those of the plan, each source
+-- has its path, all blocks are lent,
 -- and they hold both copies of the goal
 pub record IsReady (ready : Ready) : Type 0 where
   pub well_formed : IsWellFormed ready.seen ready.plan

@@ -31,24 +31,30 @@ pub fn commit<D: Disk, S: Sources>(
     ensures told { S.told sources.new ≡ S.told sources.old }
 
     // Over every disk and all sources: the calls are those of the steps, whatever is copied.
-    ensures made { (founds : List Found) × MakesSteps ready.plan (outside_of (S.told sources.old) ready.paths (D.first disk.old)) ready.steps founds
+    ensures made { (founds : List Found) × MakesSteps ready.plan
+        (outside_of (S.told sources.old) ready.paths (D.first disk.old)) ready.steps founds
         (D.calls disk.old) (D.calls disk.new) result }
     ensures writes { IfOk result (λ done. done.writes ≡ writes_in ready.steps) }
     ensures disk_cause { HasDiskCause (D.faults disk.old) (D.faults disk.new) result }
     ensures source_cause { HasSourceCause (S.faults sources.old) (S.faults sources.new) result }
     // No call goes past the end of a disk as long as it was seen, nor of a file that has the bytes.
-    ensures disk_strays { IfSome (history_told (D.first disk.old) (D.calls disk.old)) (λ h. length (held h) ≡ 512 * ready.seen.sectors → D.strays disk.new ≡ D.strays disk.old) }
-    ensures source_strays { IfSome (S.told sources.old) (λ files. All (HasFile files ready.paths) ready.steps → S.strays sources.new ≡ S.strays sources.old) }
+    ensures disk_strays { IfSome (history_told (D.first disk.old) (D.calls disk.old))
+        (λ h. length (held h) ≡ 512 * ready.seen.sectors → D.strays disk.new ≡ D.strays disk.old) }
+    ensures source_strays { IfSome (S.told sources.old) (λ files. All (HasFile files ready.paths) ready.steps
+        → S.strays sources.new ≡ S.strays sources.old) }
 
     // Where the disk tells, whatever the sources do.
     ensures copied { TellsShown ready (D.first disk.old) (D.calls disk.old) (D.calls disk.new) result }
 
     // Where both tell: they are the calls of the plan, and a source has changed exactly where a tree's root isn't the planned one.
-    ensures planned { IfSome (S.told sources.old) (λ files. MakesPlanned ready files (D.first disk.old) (D.calls disk.old) (D.calls disk.new) result) }
+    ensures planned { IfSome (S.told sources.old) (λ files. MakesPlanned ready files (D.first disk.old) (D.calls disk.old)
+        (D.calls disk.new) result) }
     ensures changed { IfSome (S.told sources.old) (λ files. ChangesAtRoots ready files (D.first disk.old) (D.calls disk.old) result) }
-    ensures complete { IfSome (S.told sources.old) (λ files. IsComplete ready files (D.first disk.old) (D.calls disk.old) (D.faults disk.old) (D.faults disk.new)
+    ensures complete { IfSome (S.told sources.old)
+        (λ files. IsComplete ready files (D.first disk.old) (D.calls disk.old) (D.faults disk.old) (D.faults disk.new)
         (S.faults sources.old) (S.faults sources.new) result) }
-    ensures ended { IfSome (S.told sources.old) (λ files. OnOk result (EndsFinal ready files (D.first disk.old) (D.calls disk.old) (D.calls disk.new))) }
+    ensures ended { IfSome (S.told sources.old) (λ files. OnOk result
+        (EndsFinal ready files (D.first disk.old) (D.calls disk.old) (D.calls disk.new))) }
 
     // Whatever the sources do.
     ensures any_moment { AnyMomentIsSafe ready (S.told sources.old) (D.first disk.old) (D.calls disk.old) (D.calls disk.new) }
@@ -65,13 +71,16 @@ fn carry_out<D: Disk, S: Sources>(
     requires { IsReady ready }
     ensures first { D.first disk.new ≡ D.first disk.old }
     ensures told { S.told sources.new ≡ S.told sources.old }
-    ensures made { (founds : List Found) × MakesSteps ready.plan (outside_of (S.told sources.old) ready.paths (D.first disk.old)) ready.steps founds
+    ensures made { (founds : List Found) × MakesSteps ready.plan
+        (outside_of (S.told sources.old) ready.paths (D.first disk.old)) ready.steps founds
         (D.calls disk.old) (D.calls disk.new) result }
     ensures writes { IfOk result (λ done. done.writes ≡ writes_in ready.steps) }
     ensures disk_cause { HasDiskCause (D.faults disk.old) (D.faults disk.new) result }
     ensures source_cause { HasSourceCause (S.faults sources.old) (S.faults sources.new) result }
-    ensures disk_strays { IfSome (history_told (D.first disk.old) (D.calls disk.old)) (λ h. AllLieIn ready.plan (length (held h)) ready.steps → D.strays disk.new ≡ D.strays disk.old) }
-    ensures source_strays { IfSome (S.told sources.old) (λ files. All (HasFile files ready.paths) ready.steps → S.strays sources.new ≡ S.strays sources.old) }
+    ensures disk_strays { IfSome (history_told (D.first disk.old) (D.calls disk.old))
+        (λ h. AllLieIn ready.plan (length (held h)) ready.steps → D.strays disk.new ≡ D.strays disk.old) }
+    ensures source_strays { IfSome (S.told sources.old) (λ files. All (HasFile files ready.paths) ready.steps
+        → S.strays sources.new ≡ S.strays sources.old) }
 {
     let mut ready = ready;
     let writes = ready.writes();
@@ -89,12 +98,15 @@ fn make_all<D: Disk, S: Sources>(
     ensures leased { IsLeased ready.new.blocks }
     ensures first { D.first disk.new ≡ D.first disk.old }
     ensures told { S.told sources.new ≡ S.told sources.old }
-    ensures made { (founds : List Found) × MakesSteps ready.old.plan (outside_of (S.told sources.old) ready.old.paths (D.first disk.old)) ready.old.steps founds
+    ensures made { (founds : List Found) × MakesSteps ready.old.plan
+        (outside_of (S.told sources.old) ready.old.paths (D.first disk.old)) ready.old.steps founds
         (D.calls disk.old) (D.calls disk.new) result }
     ensures disk_cause { HasDiskCause (D.faults disk.old) (D.faults disk.new) result }
     ensures source_cause { HasSourceCause (S.faults sources.old) (S.faults sources.new) result }
-    ensures disk_strays { IfSome (history_told (D.first disk.old) (D.calls disk.old)) (λ h. AllLieIn ready.old.plan (length (held h)) ready.old.steps → D.strays disk.new ≡ D.strays disk.old) }
-    ensures source_strays { IfSome (S.told sources.old) (λ files. All (HasFile files ready.old.paths) ready.old.steps → S.strays sources.new ≡ S.strays sources.old) }
+    ensures disk_strays { IfSome (history_told (D.first disk.old) (D.calls disk.old))
+        (λ h. AllLieIn ready.old.plan (length (held h)) ready.old.steps → D.strays disk.new ≡ D.strays disk.old) }
+    ensures source_strays { IfSome (S.told sources.old) (λ files. All (HasFile files ready.old.paths) ready.old.steps
+        → S.strays sources.new ≡ S.strays sources.old) }
 {
     make_steps(
         disk,

@@ -22,7 +22,8 @@ HasReason folders read disk later sources drained out after status =
     ⊎ ((status ≡ exit.sink) × Rose out.faults after.faults)
 
 -- no call of folders, disk, sources and sink failed
-pub record NoneFailed (folders read : Store Tree) (disk later : Device) (sources drained : Store (List Stored)) (out after : Output) : Type 0 where
+pub record NoneFailed (folders read : Store Tree) (disk later : Device) (sources drained : Store (List Stored))
+    (out after : Output) : Type 0 where
   pub by_folders : ¬ Rose folders.faults read.faults
   pub by_disk : ¬ Rose disk.faults later.faults
   pub by_sources : ¬ Rose sources.faults drained.faults

@@ -71,7 +71,8 @@ pub record StopsSafely (request : Request) (list : List Definition) (disk later 
   pub at_moments : AtEachMoment bytes disk later
       (StopsIfHonest request.sector (held (history_of bytes disk.calls)) planned.seen planned.plan body)
 
--- where the sources tell too: the plan is the goal by what they tell, and the calls are those of its steps; a stop leaves the old table or the goal with all that, and
+-- where the sources tell too: the plan is the goal by what they tell, and the calls are those of its steps; a stop leaves
+-- the old table or the goal with all that, and
 -- on a disk that writes each sector whole or not at all it does so without a premise on chance
 pub record StopsExactly (request : Request) (list : List Definition) (disk later : Device) (planned : Planned) (calls : List Call)
     (bytes : List ℕ) (files : List Stored) : Type 0 where
@@ -124,7 +125,8 @@ pub data Ends (request : Request) (json : Bool) (dirs : List (List ℕ)) (folder
       → Finishes out after (applied_report json definitions planned) status
       → Ends request json dirs folders disk later sources out after status
   broken : IsBetween status → LeavesAll disk later → Ends request json dirs folders disk later sources out after status
-  between : IsBetween status → (definitions : Definitions) (planned : Planned) (calls : List Call) → AreRead request dirs folders definitions
+  between : IsBetween status → (definitions : Definitions) (planned : Planned) (calls : List Call)
+      → AreRead request dirs folders definitions
       → CarriesSome request definitions.list disk later sources planned calls → (refusal : Refusal) → IsCommitRefusal planned refusal
       → Refuses out after refusal status → Ends request json dirs folders disk later sources out after status
 

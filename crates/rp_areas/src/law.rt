@@ -46,7 +46,8 @@ pub fn anchors_use_their_least()
     ensures fits { (table : Table) (last : ℕ) (matched : List (Option ℕ)) (wants : List Want) (areas : List Area)
         → areas_of table last matched wants ≡ Ok areas → All (λ a. a.used ≤ a.span) areas }
     ensures differ { (table : Table) (last : ℕ) (matched : List (Option ℕ)) (wants : List Want) (areas : List Area)
-        → areas_of table last matched wants ≡ Ok areas → IsLaidOut table → AllPairs (λ a b. IfSome a.anchor (λ file. b.anchor ≢ Some file)) areas }
+        → areas_of table last matched wants ≡ Ok areas → IsLaidOut table
+        → AllPairs (λ a b. IfSome a.anchor (λ file. b.anchor ≢ Some file)) areas }
 {}
 
 /// Where a row was added for each definition that had none, each definition has the row that it had or the one that was
@@ -73,7 +74,8 @@ pub fn there_is_one_order()
 /// The areas of a table in whose areas rows were placed, each with its padding, and whose anchors may have grown: each of
 /// these rows is the anchor of an area of its own, and none is refused.
 pub fn placed_rows_stay()
-    ensures { (table again : Table) (last : ℕ) (matched rematched : List (Option ℕ)) (wants : List Want) (before : List Piece) (stacks : List (List Piece))
+    ensures { (table again : Table) (last : ℕ) (matched rematched : List (Option ℕ)) (wants : List Want) (before : List Piece)
+        (stacks : List (List Piece))
         → IsFilled table again last matched rematched wants before stacks
         → areas_of again last rematched wants ≡ Ok (areas_filled table last matched wants before stacks) }
 {}

@@ -29,7 +29,8 @@ pub fn assign(alloc: Global, table: &Table, kinds: &[Guid]) -> Result<List<Optio
 // The place of each row, under its type and how many rows of that type stand before it.
 fn places(alloc: Global, rows: &[Row]) -> Result<HashMap<([u8; 16], u64), u16>, Memory>
     requires { length rows.now ≤ 65535 }
-    ensures { IfOk result (λ places. (kind : Guid) → (rank : ℕ) → place_in places kind rank ≡ option_map (λ r. r.0) (slice_get (rows_of rows.now kind) rank)) }
+    ensures { IfOk result (λ places. (kind : Guid) → (rank : ℕ)
+        → place_in places kind rank ≡ option_map (λ r. r.0) (slice_get (rows_of rows.now kind) rank)) }
 {
     let mut seen = HashMap::new(alloc);
     let mut places = HashMap::new(alloc);
@@ -44,7 +45,8 @@ fn places(alloc: Global, rows: &[Row]) -> Result<HashMap<([u8; 16], u64), u16>, 
 fn next_rank(seen: &mut HashMap<[u8; 16], u64>, kind: Guid) -> Result<u64, Memory>
     requires { seen_of seen.old kind < 2 ^ 64 - 1 }
     ensures rank { IfOk result (λ rank. rank ≡ seen_of seen.old kind) }
-    ensures seen { IfOk result (λ _. (other : Guid) → seen_of seen.new other ≡ seen_of seen.old other + (if is_kind kind other then 1 else 0)) }
+    ensures seen { IfOk result (λ _. (other : Guid)
+        → seen_of seen.new other ≡ seen_of seen.old other + (if is_kind kind other then 1 else 0)) }
 {
     let rank = seen.get(&kind.0).copied().unwrap_or(0);
     seen.insert(kind.0, rank + 1)?;

@@ -53,7 +53,8 @@ ChecksRead request definitions disk later sources drained out after status =
     × ChecksPlanned request.arch seen later out after status planned
 
 -- where the definitions are refused, the disk and the sources aren't asked
-abbrev pub ChecksBehind : Request → Result Definitions Refusal → Device → Device → Store (List Stored) → Store (List Stored) → Output → Output → ℕ → Type 0
+abbrev pub ChecksBehind : Request → Result Definitions Refusal → Device → Device → Store (List Stored) → Store (List Stored)
+    → Output → Output → ℕ → Type 0
 ChecksBehind request (Err refusal) disk later sources drained out after status =
     (later ≡ disk) × (drained ≡ sources) × Refuses out after refusal status
 ChecksBehind request (Ok definitions) disk later sources drained out after status =

@@ -33,7 +33,8 @@ pub record CheckByStatus (seed : Guid) (arch : Arch) (sector : ℕ) (dirs : List
   pub only_read : IsOnlyRead disk later
   pub causes : HasCauses disk later out after status
   pub files : HasFileCauses folders read sources drained out after status
-  pub one_of : IsRefused status ⊎ (status ≡ exit.done) ⊎ (status ≡ exit.differs) ⊎ (status ≡ exit.disk) ⊎ (status ≡ exit.files) ⊎ (status ≡ exit.sink)
+  pub one_of : IsRefused status ⊎ (status ≡ exit.done) ⊎ (status ≡ exit.differs) ⊎ (status ≡ exit.disk) ⊎ (status ≡ exit.files)
+      ⊎ (status ≡ exit.sink)
       ⊎ (status ≡ exit.memory)
   pub same : status ≡ exit.done → WhereTold folders disk sources (λ tree image files.
       told_difference seed arch sector dirs tree image files ≡ Ok None) × PrintsAll out after same_line
@@ -43,6 +44,7 @@ pub record CheckByStatus (seed : Guid) (arch : Arch) (sector : ℕ) (dirs : List
   pub cut : status ≡ exit.sink → (found : Option Difference) × WhereTold folders disk sources (λ tree image files.
       told_difference seed arch sector dirs tree image files ≡ Ok found) × PrintsPart out after (check_report found)
   pub refused : IsRefused status → WhereTold folders disk sources (λ tree image files.
-      IsErrAnd (told_difference seed arch sector dirs tree image files) (λ refusal. (refusal.status ≡ status) × Prints out after (line_of refusal)))
+      IsErrAnd (told_difference seed arch sector dirs tree image files)
+      (λ refusal. (refusal.status ≡ status) × Prints out after (line_of refusal)))
   pub disk_line : status ≡ exit.disk → Prints out after (line_of disk_refusal)
   pub nothing : status ≡ exit.memory → Prints out after []

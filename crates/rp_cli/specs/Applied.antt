@@ -69,6 +69,7 @@ IsRefusedBefore status = (status ≡ exit.definitions) ⊎ (status ≡ exit.imag
 -- a second run writes nothing: where an image is idle for the definitions and isn't to grow, no call is made but the sync
 abbrev pub WritesNothingIdle : Request → List (List ℕ) → Store Tree → Device → Device → Type 0
 WritesNothingIdle request dirs folders disk later =
-    IfSome disk.first (λ bytes. IfSome folders.told (λ tree. (definitions : Definitions) → definitions_in request.arch tree dirs ≡ Ok definitions
+    IfSome disk.first (λ bytes. IfSome folders.told (λ tree. (definitions : Definitions)
+    → definitions_in request.arch tree dirs ≡ Ok definitions
     → IsIdle request.sector (held (history_of bytes disk.calls)) definitions.list request.seed
     → request.size ≤ length (held (history_of bytes disk.calls)) → MadeFirst disk.calls (Sync ∷ []) later.calls))

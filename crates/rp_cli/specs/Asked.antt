@@ -18,7 +18,8 @@ abbrev pub request_of : Line → Request
 request_of line = record { seed = line.seed; arch = line.arch; empty = line.empty; size = line.size; sector = line.sector }
 
 -- what `plan` does, or there was no memory for the paths of the folders, and nothing was asked
-abbrev pub PlansAsked : Request → Bool → List (List ℕ) → Store Tree → Store Tree → Device → Device → Store (List Stored) → Store (List Stored)
+abbrev pub PlansAsked : Request → Bool → List (List ℕ) → Store Tree → Store Tree → Device → Device → Store (List Stored)
+    → Store (List Stored)
     → Output → Output → ℕ → Type 0
 PlansAsked request json dirs folders read disk later sources drained out after status =
     Plans request json dirs folders read disk later sources drained out after status

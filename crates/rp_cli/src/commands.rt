@@ -84,7 +84,8 @@ pub fn run<D: Disk, F: Folders, S: Sources, K: Sink>(
         (device D.first D.calls D.faults D.strays disk.old) (device D.first D.calls D.faults D.strays disk.new)
         (store S.told S.faults S.strays sources.old) (store S.told S.faults S.strays sources.new)
         (output K.told K.faults out.old) (output K.told K.faults out.new) result) }
-    // `apply` reads definitions, syncs the disk, plans as `plan` does, takes all memory, carries the plan out by the calls of its steps, and
+    // `apply` reads definitions, syncs the disk, plans as `plan` does, takes all memory, carries the plan out by the calls
+    // of its steps, and
     // prints it.
     ensures apply { IfOk (line_of (map string_bytes words.now)) (λ line. line.command ≡ Command.Apply → line.factory_reset ≡ false
         → AppliesAsked (request_of_line line) line.json (paths_of (text_in Opt.Definitions (map string_bytes words.now)))
@@ -142,14 +143,16 @@ pub fn run<D: Disk, F: Folders, S: Sources, K: Sink>(
 
     // What `apply` promises: where it answers 0, and at 9, the image's table is the goal of its old table and the definitions, every old
     // partition keeps its place and bytes, new ones hold their contents.
-    ensures applied { IfOk (line_of (map string_bytes words.now)) (λ line. line.command ≡ Command.Apply → line.factory_reset ≡ false → IsDone result
+    ensures applied { IfOk (line_of (map string_bytes words.now)) (λ line. line.command ≡ Command.Apply → line.factory_reset ≡ false
+        → IsDone result
         → IsApplied (request_of_line line) (paths_of (text_in Opt.Definitions (map string_bytes words.now)))
         (store F.told F.faults F.strays folders.old)
         (device D.first D.calls D.faults D.strays disk.old) (device D.first D.calls D.faults D.strays disk.new)
         (store S.told S.faults S.strays sources.old)) }
     // With a factory reset its table is the goal of its reset table, which is the old one without the rows of definitions that say so,
     // and every partition of that keeps its place and bytes.
-    ensures renewed { IfOk (line_of (map string_bytes words.now)) (λ line. line.command ≡ Command.Apply → line.factory_reset ≡ true → IsDone result
+    ensures renewed { IfOk (line_of (map string_bytes words.now)) (λ line. line.command ≡ Command.Apply → line.factory_reset ≡ true
+        → IsDone result
         → IsRenewed (request_of_line line) (paths_of (text_in Opt.Definitions (map string_bytes words.now)))
         (store F.told F.faults F.strays folders.old)
         (device D.first D.calls D.faults D.strays disk.old) (device D.first D.calls D.faults D.strays disk.new)
@@ -166,7 +169,8 @@ pub fn run<D: Disk, F: Folders, S: Sources, K: Sink>(
         (device D.first D.calls D.faults D.strays disk.old) (device D.first D.calls D.faults D.strays disk.new)
         (store S.told S.faults S.strays sources.old)) }
     // Stopped at any moment of a factory reset, it shows the old, the reset or the goal table with all that.
-    ensures any_moment_of_reset { IfOk (line_of (map string_bytes words.now)) (λ line. line.command ≡ Command.Apply → line.factory_reset ≡ true
+    ensures any_moment_of_reset { IfOk (line_of (map string_bytes words.now)) (λ line. line.command ≡ Command.Apply
+        → line.factory_reset ≡ true
         → IsRenewedSafely (request_of_line line) (paths_of (text_in Opt.Definitions (map string_bytes words.now)))
         (store F.told F.faults F.strays folders.old)
         (device D.first D.calls D.faults D.strays disk.old) (device D.first D.calls D.faults D.strays disk.new)

@@ -18,7 +18,8 @@ pub fn close_header<D: Disk>(disk: &mut D, plan: &Plan, which: Which) -> Result<
     requires { HasRoom plan.now }
     ensures first { D.first disk.new ≡ D.first disk.old }
     ensures ran { Runs (D.calls disk.old) (close_call plan.now which ∷ []) (D.calls disk.new) result }
-    ensures strays { IfSome (history_told (D.first disk.old) (D.calls disk.old)) (λ h. 512 * plan.now.target ≤ length (held h) → D.strays disk.new ≡ D.strays disk.old) }
+    ensures strays { IfSome (history_told (D.first disk.old) (D.calls disk.old)) (λ h. 512 * plan.now.target ≤ length (held h)
+        → D.strays disk.new ≡ D.strays disk.old) }
     ensures cause { HasCause (D.faults disk.old) (D.faults disk.new) result }
 {
     let sector = plan.goal.sector;
@@ -39,7 +40,8 @@ pub fn write_array<D: Disk>(
     requires copy { copy.now ≡ exact plan.now.goal which (target_sectors_of plan.now) }
     ensures first { D.first disk.new ≡ D.first disk.old }
     ensures ran { Runs (D.calls disk.old) (array_call plan.now which ∷ []) (D.calls disk.new) result }
-    ensures strays { IfSome (history_told (D.first disk.old) (D.calls disk.old)) (λ h. 512 * plan.now.target ≤ length (held h) → D.strays disk.new ≡ D.strays disk.old) }
+    ensures strays { IfSome (history_told (D.first disk.old) (D.calls disk.old)) (λ h. 512 * plan.now.target ≤ length (held h)
+        → D.strays disk.new ≡ D.strays disk.old) }
     ensures cause { HasCause (D.faults disk.old) (D.faults disk.new) result }
 {
     let array = array_of(copy, which, plan.goal.sector);
@@ -59,7 +61,8 @@ pub fn write_header<D: Disk>(
     requires copy { copy.now ≡ exact plan.now.goal which (target_sectors_of plan.now) }
     ensures first { D.first disk.new ≡ D.first disk.old }
     ensures ran { Runs (D.calls disk.old) (header_call plan.now which ∷ []) (D.calls disk.new) result }
-    ensures strays { IfSome (history_told (D.first disk.old) (D.calls disk.old)) (λ h. 512 * plan.now.target ≤ length (held h) → D.strays disk.new ≡ D.strays disk.old) }
+    ensures strays { IfSome (history_told (D.first disk.old) (D.calls disk.old)) (λ h. 512 * plan.now.target ≤ length (held h)
+        → D.strays disk.new ≡ D.strays disk.old) }
     ensures cause { HasCause (D.faults disk.old) (D.faults disk.new) result }
 {
     let header = header_of(copy, which, plan.goal.sector);
@@ -72,7 +75,8 @@ pub fn write_mbr<D: Disk>(disk: &mut D, plan: &Plan) -> Result<(), Failed>
     requires { HasRoom plan.now }
     ensures first { D.first disk.new ≡ D.first disk.old }
     ensures ran { Runs (D.calls disk.old) (mbr_call plan.now ∷ []) (D.calls disk.new) result }
-    ensures strays { IfSome (history_told (D.first disk.old) (D.calls disk.old)) (λ h. 512 * plan.now.target ≤ length (held h) → D.strays disk.new ≡ D.strays disk.old) }
+    ensures strays { IfSome (history_told (D.first disk.old) (D.calls disk.old)) (λ h. 512 * plan.now.target ≤ length (held h)
+        → D.strays disk.new ≡ D.strays disk.old) }
     ensures cause { HasCause (D.faults disk.old) (D.faults disk.new) result }
 {
     disk.write(446, &mbr_bytes(target_sectors(plan)))?;

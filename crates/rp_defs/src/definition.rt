@@ -30,7 +30,7 @@ pub struct Definition {
     pub source: Option<Text>,
     /// `Verity=` and `VerityMatchKey=`.
     pub verity: Verity,
-    /// `FactoryReset=`, which nothing reads yet.
+    /// `FactoryReset=`: a factory reset makes the partition anew.
     pub factory_reset: bool,
     /// The name of the file that the partition is split into, `SplitName=`; none where it is unset, and the partition then
     /// gives no file.

@@ -27,7 +27,8 @@ pub(crate) struct Settings {
 pub(crate) fn settings_of(alloc: Global, pieces: &[Piece]) -> Result<Settings, DefFault>
     requires few { length pieces.now ≤ 256 }
     requires short { All (λ (piece : Read). length piece.bytes ≤ 65536) pieces.now }
-    ensures answer { Gives no_memory (after (read_pieces pieces.now) (λ read. Ok (record { counting = counting_of (all_keyed read); ignored = all_ignored read }))) result }
+    ensures answer { Gives no_memory (after (read_pieces pieces.now)
+        (λ read. Ok (record { counting = counting_of (all_keyed read); ignored = all_ignored read }))) result }
     ensures bound { IfOk result (λ settings. settings.ignored ≤ 65536 * length pieces.now) }
     ensures fault { IfErr result IsSoundFault }
 {
@@ -83,7 +84,12 @@ fn sections_of(alloc: Global, piece: &Piece) -> Result<File, DefFault>
 
 // The fault of a piece's text, or want of memory.
 fn fault_of(alloc: Global, piece: &Piece, fault: IniFault) -> DefFault
-    ensures answer { IsFault (record { file = piece.now.file; part = piece.now.part; line = line_of fault; kind = DefKind.Ini fault }) result }
+    ensures answer { IsFault (record {
+      file = piece.now.file;
+      part = piece.now.part;
+      line = line_of fault;
+      kind = DefKind.Ini fault;
+    }) result }
     ensures memory { fault ≡ IniFault.Memory → result ≡ no_memory }
     ensures sound { IsSoundFault result }
 {

@@ -24,7 +24,8 @@ pub(crate) fn trees_difference<D: Disk>(
 ) -> Result<Option<Difference>, Failed>
     requires seen { IsSeen seen.now.shown.sector seen.now }
     requires room { 24576 ≤ length room.old }
-    ensures reads { Reads (512 * seen.now.sectors) (D.first disk.old) (D.first disk.new) (D.calls disk.old) (D.calls disk.new) (D.strays disk.old) (D.strays disk.new) (D.faults disk.old) (D.faults disk.new) result }
+    ensures reads { Reads (512 * seen.now.sectors) (D.first disk.old) (D.first disk.new) (D.calls disk.old) (D.calls disk.new)
+        (D.strays disk.old) (D.strays disk.new) (D.faults disk.old) (D.faults disk.new) result }
     ensures found { IfSome (history_told (D.first disk.old) (D.calls disk.old)) (λ h. IfOk result (λ found.
         found ≡ option_or (tree_difference_of (held h) arch seen.now.shown.rows Designator.Root)
         (tree_difference_of (held h) arch seen.now.shown.rows Designator.Usr))) }
@@ -46,7 +47,8 @@ fn tree_difference<D: Disk>(
 ) -> Result<Option<Difference>, Failed>
     requires seen { IsSeen seen.now.shown.sector seen.now }
     requires room { 24576 ≤ length room.old }
-    ensures reads { Reads (512 * seen.now.sectors) (D.first disk.old) (D.first disk.new) (D.calls disk.old) (D.calls disk.new) (D.strays disk.old) (D.strays disk.new) (D.faults disk.old) (D.faults disk.new) result }
+    ensures reads { Reads (512 * seen.now.sectors) (D.first disk.old) (D.first disk.new) (D.calls disk.old) (D.calls disk.new)
+        (D.strays disk.old) (D.strays disk.new) (D.faults disk.old) (D.faults disk.new) result }
     ensures found { IfSome (history_told (D.first disk.old) (D.calls disk.old)) (λ h. IfOk result (λ found.
         found ≡ tree_difference_of (held h) arch seen.now.shown.rows designator)) }
     ensures tree { IfOk result (λ found. IfSome found (IsOfTree designator)) }
@@ -74,8 +76,10 @@ fn bad_of<D: Disk>(
     requires payload { payload.now.start + payload.now.size ≤ 2 ^ 35 }
     requires hash { hash.now.start + hash.now.size ≤ 2 ^ 35 }
     requires room { 24576 ≤ length room.old }
-    ensures reads { Reads (ends_of payload.now hash.now) (D.first disk.old) (D.first disk.new) (D.calls disk.old) (D.calls disk.new) (D.strays disk.old) (D.strays disk.new) (D.faults disk.old) (D.faults disk.new) result }
-    ensures bad { IfSome (history_told (D.first disk.old) (D.calls disk.old)) (λ h. IfOk result (λ bad. bad ≡ bad_of_pair (held h) payload.now hash.now)) }
+    ensures reads { Reads (ends_of payload.now hash.now) (D.first disk.old) (D.first disk.new) (D.calls disk.old) (D.calls disk.new)
+        (D.strays disk.old) (D.strays disk.new) (D.faults disk.old) (D.faults disk.new) result }
+    ensures bad { IfSome (history_told (D.first disk.old) (D.calls disk.old))
+        (λ h. IfOk result (λ bad. bad ≡ bad_of_pair (held h) payload.now hash.now)) }
 {
     if payload.size < BLOCK_UNITS || hash.size < BLOCK_UNITS {
         return Ok(None);

@@ -61,8 +61,10 @@ LeftNow history since made image = (made ≡ made_since history since) × MayLea
 -- these calls had been made since the moment, and a stop then, in the midst of the last of them too, might have left the image
 abbrev pub LeftSince : History → ℕ → List Call → List ℕ → Type 0
 LeftSince (Start bytes) since made image = (made ≡ []) × MayLeave (Start bytes) image
-LeftSince (Did before call) since made image = LeftNow (Did before call) since made image ⊎ ((since ≤ moment before) × LeftSince before since made image)
-LeftSince (Failed before call after) since made image = LeftNow (Failed before call after) since made image ⊎ ((since ≤ moment before) × LeftSince before since made image)
+LeftSince (Did before call) since made image = LeftNow (Did before call) since made image
+    ⊎ ((since ≤ moment before) × LeftSince before since made image)
+LeftSince (Failed before call after) since made image = LeftNow (Failed before call after) since made image
+    ⊎ ((since ≤ moment before) × LeftSince before since made image)
 
 -- the history with one more call that was done whole
 abbrev pub did : History → Call → History

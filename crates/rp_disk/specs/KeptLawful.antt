@@ -67,7 +67,8 @@ lawful_replayed : (history : History) (calls : List Call) (oks : List Bool) → 
 lawful_replayed history [] oks lawful fit = lawful
 lawful_replayed history (call ∷ calls) [] lawful fit = lawful
 lawful_replayed history (call ∷ calls) (ok ∷ oks) lawful fit =
-    lawful_replayed (noted history call ok) calls oks (lawful_noted history call ok lawful (fit_at_first (noted history call ok) calls oks fit)) fit
+    lawful_replayed (noted history call ok) calls oks
+    (lawful_noted history call ok lawful (fit_at_first (noted history call ok) calls oks fit)) fit
 
 lawful_kept : (image first : List ℕ) (calls : List Call) (oks : List Bool) → writes_fit (kept image first calls oks) ≡ true
     → IsLawful (kept image first calls oks)

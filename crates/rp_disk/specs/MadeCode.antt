@@ -32,4 +32,5 @@ from_parts-to_parts (Broke (SetLen len) after) = refl
 -- a call with its answer, in the logic's memory
 abbrev pub made_code : Coded Made
 made_code =
-    code_by Parts (coded× coded_ℕ (coded× coded_ℕ (coded× (coded_list coded_ℕ) (coded_list coded_ℕ)))) to_parts from_parts from_parts-to_parts
+    code_by Parts (coded× coded_ℕ (coded× coded_ℕ (coded× (coded_list coded_ℕ) (coded_list coded_ℕ))))
+    to_parts from_parts from_parts-to_parts

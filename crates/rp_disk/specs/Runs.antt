@@ -30,7 +30,8 @@ pub record Runs {T E : Type 0} (old : List Made) (plan : List Call) (new : List 
 -- from the start on these calls were made, and each answered Ok but perhaps the last; where that is a sync it is none of them
 abbrev pub Went : History → List Call → History → Type 0
 Went start calls now = (now ≡ all_did start calls)
-    ⊎ ((made : List Call) × (last : Call) × (after : List ℕ) × (calls ≡ and_failed made last) × (now ≡ Failed (all_did start made) last after))
+    ⊎ ((made : List Call) × (last : Call) × (after : List ℕ) × (calls ≡ and_failed made last)
+    × (now ≡ Failed (all_did start made) last after))
 
 -- where a disk tells: from a start where nothing was pending, at any moment since, the calls made by then are the first of
 -- the planned, and a stop leaves what it may leave of them on the bytes shown at the start

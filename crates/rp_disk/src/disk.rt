@@ -43,7 +43,8 @@ pub trait Disk {
         ensures first { first self.new ≡ first self.old }
         ensures calls { calls self.new ≡ calls self.old }
         ensures range { IfSome (history_told (first self.old) (calls self.old)) (λ h. OnOk result (at + length buf.old ≤ length (held h))) }
-        ensures bytes { IfSome (history_told (first self.old) (calls self.old)) (λ h. OnOk result (buf.new ≡ bytes_at (held h) at (length buf.old))) }
+        ensures bytes { IfSome (history_told (first self.old) (calls self.old))
+            (λ h. OnOk result (buf.new ≡ bytes_at (held h) at (length buf.old))) }
         ensures strays { IfSome (history_told (first self.old) (calls self.old)) (λ h.
             CountsStray (nat_lt (length (held h)) (at + length buf.old)) (strays self.old) (strays self.new)) }
         ensures cause { HasCause (faults self.old) (faults self.new) result };
@@ -52,7 +53,8 @@ pub trait Disk {
     fn write(&mut self, at: u64, bytes: &[u8]) -> Result<(), Failed>
         ensures first { first self.new ≡ first self.old }
         ensures calls { Makes (calls self.old) (Call.Write at bytes.now) (calls self.new) result }
-        ensures range { IfSome (history_told (first self.old) (calls self.old)) (λ h. OnOk result (at + length bytes.now ≤ length (held h))) }
+        ensures range { IfSome (history_told (first self.old) (calls self.old))
+            (λ h. OnOk result (at + length bytes.now ≤ length (held h))) }
         ensures strays { IfSome (history_told (first self.old) (calls self.old)) (λ h.
             CountsStray (nat_lt (length (held h)) (at + length bytes.now)) (strays self.old) (strays self.new)) }
         ensures cause { HasCause (faults self.old) (faults self.new) result };

@@ -71,7 +71,8 @@ fn measure<F: Seek>(file: &mut F) -> io::Result<u64>
 
 // Seeks to a range, where it lies within the file.
 fn seek_within<F: Seek>(file: &mut F, at: u64, count: usize) -> io::Result<()>
-    ensures inside { IfSome (F.stream_position file.old) (λ _. IfSome (F.stream_bytes file.old) (λ all. OnOk result (at + count ≤ length all))) }
+    ensures inside { IfSome (F.stream_position file.old)
+        (λ _. IfSome (F.stream_bytes file.old) (λ all. OnOk result (at + count ≤ length all))) }
     ensures placed { IfSome (F.stream_position file.old) (λ _. OnOk result (F.stream_position file.new ≡ Some at)) }
     ensures bytes { Keeps (F.stream_bytes file.old) (F.stream_bytes file.new) }
 {
@@ -86,7 +87,8 @@ fn seek_within<F: Seek>(file: &mut F, at: u64, count: usize) -> io::Result<()>
 // Fills the buffer from an offset on.
 fn read_at<F: Read + Seek>(file: &mut F, at: u64, buf: &mut [u8]) -> io::Result<()>
     ensures bytes { ReadsAhead F.stream_bytes F.stream_position F.remaining
-        → IfSome (F.stream_position file.old) (λ _. IfSome (F.stream_bytes file.old) (λ all. OnOk result (buf.new ≡ bytes_at all at (length buf.old)))) }
+        → IfSome (F.stream_position file.old) (λ _. IfSome (F.stream_bytes file.old)
+        (λ all. OnOk result (buf.new ≡ bytes_at all at (length buf.old)))) }
 {
     seek_within(file, at, buf.len())?;
     file.read_exact(buf)

@@ -181,7 +181,8 @@ impl Disk for MemDisk {
         ensures calls { calls self.new ≡ calls self.old }
         ensures range { OnOk result (at + length buf.old ≤ length (held (history self.old))) }
         ensures bytes { OnOk result (buf.new ≡ bytes_at (held (history self.old)) at (length buf.old)) }
-        ensures strays { CountsStray (nat_lt (length (held (history self.old))) (at + length buf.old)) (strays_of self.old) (strays_of self.new) }
+        ensures strays { CountsStray (nat_lt (length (held (history self.old))) (at + length buf.old)) (strays_of self.old)
+            (strays_of self.new) }
         ensures cause { HasCause (faults_of self.old) (faults_of self.new) result }
         ensures exact { Reads self.old self.new (at + length buf.old ≤ length (held (history self.old))) result }
     {
@@ -202,9 +203,11 @@ impl Disk for MemDisk {
         ensures first { first self.new ≡ first self.old }
         ensures calls { Makes (calls self.old) (Call.Write at bytes.now) (calls self.new) result }
         ensures range { OnOk result (at + length bytes.now ≤ length (held (history self.old))) }
-        ensures strays { CountsStray (nat_lt (length (held (history self.old))) (at + length bytes.now)) (strays_of self.old) (strays_of self.new) }
+        ensures strays { CountsStray (nat_lt (length (held (history self.old))) (at + length bytes.now)) (strays_of self.old)
+            (strays_of self.new) }
         ensures cause { HasCause (faults_of self.old) (faults_of self.new) result }
-        ensures exact { Changes self.old self.new (Call.Write at bytes.now) (at + length bytes.now ≤ length (held (history self.old))) result }
+        ensures exact { Changes self.old self.new (Call.Write at bytes.now)
+            (at + length bytes.now ≤ length (held (history self.old))) result }
     {
         let failing = is_to_fail(&mut self.made, &self.fail, self.fuse);
         let inside = is_inside(at, bytes.len(), self.bytes.len());

@@ -47,7 +47,8 @@ impl Record {
         ok: bool,
     ) -> Result<(), AllocError>
         ensures first { OnOk result ((after : List ℕ) → first_bytes after self.new ≡ first_bytes image.now self.old) }
-        ensures calls { OnOk result (recorded self.new ≡ recorded self.old ++ answered (held (history_kept image.now self.old)) call ok ∷ []) }
+        ensures calls { OnOk result (recorded self.new ≡ recorded self.old
+            ++ answered (held (history_kept image.now self.old)) call ok ∷ []) }
         ensures history { OnOk result ((after : List ℕ) → history_kept after self.new ≡ noted (history_kept image.now self.old) call ok) }
         ensures same_first { OnErr result (first_bytes image.now self.new ≡ first_bytes image.now self.old) }
         ensures same_calls { OnErr result (recorded self.new ≡ recorded self.old) }

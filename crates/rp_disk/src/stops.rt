@@ -10,7 +10,8 @@ ghost use Rattle.rp_disk.specs.declared.call.Call.{Call};
 /// calls made by then, which are the first of the calls since. A sync that failed at the end is none of these.
 pub fn stops_law()
     ensures { (start now : History) (calls : List Call) → IsSettled start → Went start calls now
-        → (made : List Call) (image : List ℕ) → LeftSince now (moment start) made image → IsFrontOf made calls × Leaves (held start) made image }
+        → (made : List Call) (image : List ℕ) → LeftSince now (moment start) made image
+        → IsFrontOf made calls × Leaves (held start) made image }
 {}
 
 /// The law for calls that begin with a sync, at any start, where something may be pending. Each image that a stop since
@@ -19,7 +20,8 @@ pub fn stops_law()
 pub fn opening_law()
     ensures { (start now : History) (calls made : List Call) → IsFrontOf made (Call.Sync ∷ calls) → Went start made now
         → (by_then : List Call) (image : List ℕ) → LeftSince now (moment start) by_then image
-        → MayLeave start image ⊎ ((more : List Call) × (by_then ≡ Call.Sync ∷ more) × IsFrontOf more calls × Leaves (held start) more image) }
+        → MayLeave start image ⊎ ((more : List Call) × (by_then ≡ Call.Sync ∷ more) × IsFrontOf more calls
+        × Leaves (held start) more image) }
 {}
 
 /// What a stop may leave of one call: of a write any bytes in its range, and the others as they were; of a sync the
@@ -35,10 +37,12 @@ pub fn one_call_law()
 /// What a stop since a moment might have left counts what a stop now may leave, and what it might have left before each
 /// call made since.
 pub fn moments_law()
-    ensures now { (history : History) (since : ℕ) (image : List ℕ) → MayLeave history image → LeftSince history since (made_since history since) image }
+    ensures now { (history : History) (since : ℕ) (image : List ℕ) → MayLeave history image
+        → LeftSince history since (made_since history since) image }
     ensures did { (history : History) (call : Call) (since : ℕ) (made : List Call) (image : List ℕ) → since ≤ moment history
         → LeftSince history since made image → LeftSince (did history call) since made image }
-    ensures failed { (history : History) (call : Call) (after : List ℕ) (since : ℕ) (made : List Call) (image : List ℕ) → since ≤ moment history
+    ensures failed { (history : History) (call : Call) (after : List ℕ) (since : ℕ) (made : List Call) (image : List ℕ)
+        → since ≤ moment history
         → LeftSince history since made image → LeftSince (Failed history call after) since made image }
 {}
 
@@ -57,7 +61,8 @@ pub fn shown_law()
 /// it may leave of those made by then. Nothing is pending at the start; or the calls begin with a sync, and then
 /// something may be. Where they end with a sync and were all done whole, nothing is pending at the end.
 pub fn any_moment_law()
-    ensures settled { (first : Option (List ℕ)) (old new : List Made) (plan : List Call) → MadeFirst old plan new → AtAnyMoment first old plan new }
+    ensures settled { (first : Option (List ℕ)) (old new : List Made) (plan : List Call) → MadeFirst old plan new
+        → AtAnyMoment first old plan new }
     ensures behind_sync { (first : Option (List ℕ)) (old new : List Made) (plan : List Call) → MadeFirst old (Call.Sync ∷ plan) new
         → AtAnyMomentBehindSync first old plan new }
     ensures end { (first : Option (List ℕ)) (old new : List Made) (calls : List Call) → new ≡ old ++ dones (calls ++ Call.Sync ∷ [])

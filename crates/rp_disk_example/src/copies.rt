@@ -67,7 +67,8 @@ pub fn fill<D: Disk>(disk: &mut D, at: u64, count: u64, bytes: &[u8]) -> Result<
     requires { at + count * length bytes.now < 2 ^ 64 }
     ensures first { D.first disk.new ≡ D.first disk.old }
     ensures ran { Runs (D.calls disk.old) (Call.Sync ∷ settled_row at count bytes.now) (D.calls disk.new) result }
-    ensures end { OnOk result (EndsSettled (D.first disk.old) (D.calls disk.old) (Call.Sync ∷ settled_row at count bytes.now) (D.calls disk.new)) }
+    ensures end { OnOk result (EndsSettled (D.first disk.old) (D.calls disk.old) (Call.Sync ∷ settled_row at count bytes.now)
+        (D.calls disk.new)) }
     ensures any_moment { AtAnyMomentBehindSync (D.first disk.old) (D.calls disk.old) (settled_row at count bytes.now) (D.calls disk.new) }
     ensures cause { HasCause (D.faults disk.old) (D.faults disk.new) result }
 {

@@ -38,7 +38,8 @@ pub fn found_in<D: Disk>(
 ) -> Result<[Option<Found>; 13], Failed>
     requires rows { All EndsWell rows.now }
     requires room { 24576 ≤ length room.old }
-    ensures reads { Reads (farthest rows.now) (D.first disk.old) (D.first disk.new) (D.calls disk.old) (D.calls disk.new) (D.strays disk.old) (D.strays disk.new) (D.faults disk.old) (D.faults disk.new) result }
+    ensures reads { Reads (farthest rows.now) (D.first disk.old) (D.first disk.new) (D.calls disk.old) (D.calls disk.new)
+        (D.strays disk.old) (D.strays disk.new) (D.faults disk.old) (D.faults disk.new) result }
     ensures found { IfSome (history_told (D.first disk.old) (D.calls disk.old)) (λ h.
         IfOk result (λ found. found ≡ map (found_of (held h) arch rows.now) designators)) }
 {
@@ -59,8 +60,10 @@ fn found_of<D: Disk>(
 ) -> Result<Option<Found>, Failed>
     requires rows { All EndsWell rows.now }
     requires room { 24576 ≤ length room.old }
-    ensures reads { Reads (farthest rows.now) (D.first disk.old) (D.first disk.new) (D.calls disk.old) (D.calls disk.new) (D.strays disk.old) (D.strays disk.new) (D.faults disk.old) (D.faults disk.new) result }
-    ensures found { IfSome (history_told (D.first disk.old) (D.calls disk.old)) (λ h. IfOk result (λ found. found ≡ found_of (held h) arch rows.now designator)) }
+    ensures reads { Reads (farthest rows.now) (D.first disk.old) (D.first disk.new) (D.calls disk.old) (D.calls disk.new)
+        (D.strays disk.old) (D.strays disk.new) (D.faults disk.old) (D.faults disk.new) result }
+    ensures found { IfSome (history_told (D.first disk.old) (D.calls disk.old))
+        (λ h. IfOk result (λ found. found ≡ found_of (held h) arch rows.now designator)) }
 {
     let Some(row) = row_of(rows, arch, designator) else {
         return Ok(None);
@@ -91,8 +94,10 @@ fn kinds_of<D: Disk>(
     requires row { EndsWell row.now }
     requires tree { IfSome tree EndsWell }
     requires room { 24576 ≤ length room.old }
-    ensures reads { Reads (ends_with row.now tree) (D.first disk.old) (D.first disk.new) (D.calls disk.old) (D.calls disk.new) (D.strays disk.old) (D.strays disk.new) (D.faults disk.old) (D.faults disk.new) result }
-    ensures kinds { IfSome (history_told (D.first disk.old) (D.calls disk.old)) (λ h. IfOk result (λ kinds. kinds.0 ≡ kinds_of (held h) row.now tree)) }
+    ensures reads { Reads (ends_with row.now tree) (D.first disk.old) (D.first disk.new) (D.calls disk.old) (D.calls disk.new)
+        (D.strays disk.old) (D.strays disk.new) (D.faults disk.old) (D.faults disk.new) result }
+    ensures kinds { IfSome (history_told (D.first disk.old) (D.calls disk.old))
+        (λ h. IfOk result (λ kinds. kinds.0 ≡ kinds_of (held h) row.now tree)) }
 {
     if row.size < BLOCK_UNITS {
         return Ok(Flags::UNPROTECTED);
@@ -112,8 +117,10 @@ fn kinds_of<D: Disk>(
 fn is_luks<D: Disk>(disk: &mut D, row: &Row) -> Result<bool, Failed>
     requires row { EndsWell row.now }
     requires size { 8 ≤ row.now.size }
-    ensures reads { Reads (end_of row.now) (D.first disk.old) (D.first disk.new) (D.calls disk.old) (D.calls disk.new) (D.strays disk.old) (D.strays disk.new) (D.faults disk.old) (D.faults disk.new) result }
-    ensures luks { IfSome (history_told (D.first disk.old) (D.calls disk.old)) (λ h. IfOk result (λ luks. luks ≡ is_luks (held h) row.now)) }
+    ensures reads { Reads (end_of row.now) (D.first disk.old) (D.first disk.new) (D.calls disk.old) (D.calls disk.new)
+        (D.strays disk.old) (D.strays disk.new) (D.faults disk.old) (D.faults disk.new) result }
+    ensures luks { IfSome (history_told (D.first disk.old) (D.calls disk.old))
+        (λ h. IfOk result (λ luks. luks ≡ is_luks (held h) row.now)) }
 {
     let mut bytes = [0; 6];
     read_front(disk, row, &mut bytes)?;
@@ -124,8 +131,10 @@ fn is_luks<D: Disk>(disk: &mut D, row: &Row) -> Result<bool, Failed>
 fn read_front<D: Disk>(disk: &mut D, row: &Row, buf: &mut [u8]) -> Result<(), Failed>
     requires row { EndsWell row.now }
     requires size { length buf.old ≤ 512 * row.now.size }
-    ensures reads { Reads (end_of row.now) (D.first disk.old) (D.first disk.new) (D.calls disk.old) (D.calls disk.new) (D.strays disk.old) (D.strays disk.new) (D.faults disk.old) (D.faults disk.new) result }
-    ensures bytes { IfSome (history_told (D.first disk.old) (D.calls disk.old)) (λ h. OnOk result (buf.new ≡ bytes_at (held h) (512 * row.now.start) (length buf.old))) }
+    ensures reads { Reads (end_of row.now) (D.first disk.old) (D.first disk.new) (D.calls disk.old) (D.calls disk.new)
+        (D.strays disk.old) (D.strays disk.new) (D.faults disk.old) (D.faults disk.new) result }
+    ensures bytes { IfSome (history_told (D.first disk.old) (D.calls disk.old))
+        (λ h. OnOk result (buf.new ≡ bytes_at (held h) (512 * row.now.start) (length buf.old))) }
 {
     disk.read(UNIT * row.start, buf)
 }
@@ -141,8 +150,10 @@ fn has_tree<D: Disk>(
     requires size { 8 ≤ row.now.size }
     requires tree { IfSome tree EndsWell }
     requires room { 24576 ≤ length room.old }
-    ensures reads { Reads (ends_with row.now tree) (D.first disk.old) (D.first disk.new) (D.calls disk.old) (D.calls disk.new) (D.strays disk.old) (D.strays disk.new) (D.faults disk.old) (D.faults disk.new) result }
-    ensures tree { IfSome (history_told (D.first disk.old) (D.calls disk.old)) (λ h. IfOk result (λ right. right ≡ has_tree (held h) row.now tree)) }
+    ensures reads { Reads (ends_with row.now tree) (D.first disk.old) (D.first disk.new) (D.calls disk.old) (D.calls disk.new)
+        (D.strays disk.old) (D.strays disk.new) (D.faults disk.old) (D.faults disk.new) result }
+    ensures tree { IfSome (history_told (D.first disk.old) (D.calls disk.old))
+        (λ h. IfOk result (λ right. right ≡ has_tree (held h) row.now tree)) }
 {
     match tree {
         Some(hash) if hash.size >= BLOCK_UNITS => check_root(disk, row, &hash, room),

@@ -22,7 +22,8 @@ use Rattle.rp_verdict_text.specs.Reports.{verdict_report}
 -- which it counted, and want of memory; and over every disk a verdict for each designator, none of which denies, or a fault
 pub record Reads (policy : Policy) (arch : Arch) (sector : ℕ) (before now : Device) (answer : Result Verdicts DissectFault) : Type 0 where
   pub only_read : IsOnlyRead before now
-  pub verdicts_are : IfSome (history before) (λ h. (answer ≡ Err faults.Disk) ⊎ Gives faults.Memory (verdicts sector (held h) arch policy) answer)
+  pub verdicts_are : IfSome (history before) (λ h. (answer ≡ Err faults.Disk)
+      ⊎ Gives faults.Memory (verdicts sector (held h) arch policy) answer)
   pub failed : answer ≡ Err faults.Disk → Rose before.faults now.faults
   pub kept : (answer ≡ Err faults.Disk) ⊎ (now.faults ≡ before.faults)
   pub verdicts : IfOk answer AreVerdicts

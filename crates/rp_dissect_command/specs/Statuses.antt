@@ -41,7 +41,8 @@ pub record DissectByStatus (read : Result Policy PolicyFault) (arch : Arch) (sec
     (out after : Output) (status : ℕ) : Type 0 where
   pub only_read : IsOnlyRead disk later
   pub causes : HasCauses disk later out after status
-  pub one_of : (status ≡ exit.done) ⊎ (status ≡ exit.image) ⊎ (status ≡ policy) ⊎ (status ≡ exit.disk) ⊎ (status ≡ exit.sink) ⊎ (status ≡ exit.memory)
+  pub one_of : (status ≡ exit.done) ⊎ (status ≡ exit.image) ⊎ (status ≡ policy) ⊎ (status ≡ exit.disk) ⊎ (status ≡ exit.sink)
+      ⊎ (status ≡ exit.memory)
   pub done : status ≡ exit.done → IsOkAnd read (λ p.
       (v : Verdicts) × AreVerdicts v × Says p arch sector disk (Ok v) × PrintsAll out after (verdict_report json v))
   pub cut : status ≡ exit.sink → IsOkAnd read (λ p.

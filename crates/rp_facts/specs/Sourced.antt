@@ -31,7 +31,8 @@ facts_on seed files list needs = filter_map (fact_on seed files list) needs
 
 -- the root hash over the source of a need
 abbrev pub root_on : Guid → List Stored → List Definition → Need → Option (List ℕ)
-root_on seed files list need = option_map (λ (definition : Definition). root_of seed definition (source_of files definition)) (slice_get list need.file)
+root_on seed files list need = option_map (λ (definition : Definition). root_of seed definition (source_of files definition))
+    (slice_get list need.file)
 
 -- so many bytes has the source of a need, and so many have those of these needs
 abbrev pub IsLength : List Stored → List Definition → Need → ℕ → Type 0

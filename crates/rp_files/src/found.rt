@@ -151,7 +151,8 @@ fn group_of_main<F: Folders>(
     main: &(String, String),
 ) -> Result<Group, LoadFault>
     ensures told { F.told folders.new ≡ F.told folders.old }
-    ensures group { IfSome (F.told folders.old) (λ tree. IfOk result (λ kept. group_of kept ≡ grammar.group_at tree dirs.now (bytes_of main.now))) }
+    ensures group { IfSome (F.told folders.old) (λ tree. IfOk result
+        (λ kept. group_of kept ≡ grammar.group_at tree dirs.now (bytes_of main.now))) }
     ensures fault { IfErr result IsPassed }
     ensures strays { IfSome (F.told folders.old) (λ _. F.strays folders.new ≡ F.strays folders.old) }
     ensures cause { HasLoadCause (F.faults folders.old) (F.faults folders.new) result }

@@ -23,9 +23,11 @@ fn read_piece<F: Folders>(
     path: &str,
 ) -> Result<Piece, LoadFault>
     ensures told { F.told folders.new ≡ F.told folders.old }
-    ensures piece { IfSome (F.told folders.old) (λ tree. Loads (λ piece. piece) (reading.judged (grammar.piece_at tree file.now part.now path.now)) result) }
+    ensures piece { IfSome (F.told folders.old) (λ tree. Loads
+        (λ piece. piece) (reading.judged (grammar.piece_at tree file.now part.now path.now)) result) }
     ensures short { IfOk result grammar.IsShort }
-    ensures strays { IfSome (F.told folders.old) (λ tree. IsSome (content tree.files path.now) → F.strays folders.new ≡ F.strays folders.old) }
+    ensures strays { IfSome (F.told folders.old) (λ tree. IsSome (content tree.files path.now)
+        → F.strays folders.new ≡ F.strays folders.old) }
     ensures cause { HasLoadCause (F.faults folders.old) (F.faults folders.new) result }
 {
     let file = Text::from_str(alloc, file)?;
@@ -66,9 +68,11 @@ fn with_part<F: Folders>(
     part: &(String, String),
 ) -> Result<List<Piece>, LoadFault>
     ensures told { F.told folders.new ≡ F.told folders.old }
-    ensures pieces { IfSome (F.told folders.old) (λ tree. Loads (λ after. after) (reading.with_judged pieces (reading.judged (grammar.part_at tree file.now (bytes_of part.now)))) result) }
+    ensures pieces { IfSome (F.told folders.old) (λ tree. Loads
+        (λ after. after) (reading.with_judged pieces (reading.judged (grammar.part_at tree file.now (bytes_of part.now)))) result) }
     ensures adds { IfOk result (reading.AddsAtMost 1 pieces) }
-    ensures strays { IfSome (F.told folders.old) (λ tree. IsSome (content tree.files (bytes_of part.now).1) → F.strays folders.new ≡ F.strays folders.old) }
+    ensures strays { IfSome (F.told folders.old) (λ tree. IsSome (content tree.files (bytes_of part.now).1)
+        → F.strays folders.new ≡ F.strays folders.old) }
     ensures cause { HasLoadCause (F.faults folders.old) (F.faults folders.new) result }
 {
     let piece = read_piece(alloc, folders, file, part.0.as_str(), part.1.as_str())?;
@@ -84,9 +88,11 @@ fn with_parts<F: Folders>(
     parts: &[(String, String)],
 ) -> Result<List<Piece>, LoadFault>
     ensures told { F.told folders.new ≡ F.told folders.old }
-    ensures pieces { IfSome (F.told folders.old) (λ tree. Loads (λ after. after) (reading.joined pieces (grammar.pieces_of (map (grammar.part_at tree file.now) (found_of parts.now)))) result) }
+    ensures pieces { IfSome (F.told folders.old) (λ tree. Loads
+        (λ after. after) (reading.joined pieces (grammar.pieces_of (map (grammar.part_at tree file.now) (found_of parts.now)))) result) }
     ensures adds { IfOk result (reading.AddsAtMost (length parts.now) pieces) }
-    ensures strays { IfSome (F.told folders.old) (λ tree. AreThere tree (found_of parts.now) → F.strays folders.new ≡ F.strays folders.old) }
+    ensures strays { IfSome (F.told folders.old) (λ tree. AreThere tree (found_of parts.now)
+        → F.strays folders.new ≡ F.strays folders.old) }
     ensures cause { HasLoadCause (F.faults folders.old) (F.faults folders.new) result }
 {
     let mut pieces = pieces;
@@ -106,9 +112,11 @@ pub(crate) fn with_group<F: Folders>(
 ) -> Result<List<Piece>, LoadFault>
     ensures told { F.told folders.new ≡ F.told folders.old }
     ensures pieces { IfSome (F.told folders.old) (λ tree. Loads (λ after. after)
-        (reading.with_main tree pieces (group_of group.now) (reading.judged (grammar.piece_at tree (bytes_of group.now.main).0 [] (bytes_of group.now.main).1))) result) }
+        (reading.with_main tree pieces (group_of group.now)
+        (reading.judged (grammar.piece_at tree (bytes_of group.now.main).0 [] (bytes_of group.now.main).1))) result) }
     ensures adds { IfOk result (reading.AddsAtMost (length group.now.parts.items + 1) pieces) }
-    ensures strays { IfSome (F.told folders.old) (λ tree. AreThere tree ((group_of group.now).main ∷ (group_of group.now).parts) → F.strays folders.new ≡ F.strays folders.old) }
+    ensures strays { IfSome (F.told folders.old) (λ tree. AreThere tree ((group_of group.now).main ∷ (group_of group.now).parts)
+        → F.strays folders.new ≡ F.strays folders.old) }
     ensures cause { HasLoadCause (F.faults folders.old) (F.faults folders.new) result }
 {
     let file = group.main.0.as_str();

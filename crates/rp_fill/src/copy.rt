@@ -31,8 +31,10 @@ pub fn copy_source<D: Disk, S: Sources>(
     ensures ran { (bytes : List ℕ) × IsCopyOf (S.told sources.old) path.now len bytes
         × Runs (D.calls disk.old) (in_pieces at bytes) (D.calls disk.new) result }
     ensures whole { HasAll (S.told sources.old) path.now len result }
-    ensures disk_strays { IfSome (history_told (D.first disk.old) (D.calls disk.old)) (λ h. at + len ≤ length (held h) → D.strays disk.new ≡ D.strays disk.old) }
-    ensures source_strays { IfSome (S.told sources.old) (λ files. passes (content files path.now) len ≡ false → S.strays sources.new ≡ S.strays sources.old) }
+    ensures disk_strays { IfSome (history_told (D.first disk.old) (D.calls disk.old)) (λ h. at + len ≤ length (held h)
+        → D.strays disk.new ≡ D.strays disk.old) }
+    ensures source_strays { IfSome (S.told sources.old) (λ files. passes (content files path.now) len ≡ false
+        → S.strays sources.new ≡ S.strays sources.old) }
     ensures disk_cause { HasDiskCause (D.faults disk.old) (D.faults disk.new) result }
     ensures source_cause { HasSourceCause (S.faults sources.old) (S.faults sources.new) result }
 {
@@ -56,8 +58,10 @@ fn copy_piece<D: Disk, S: Sources>(
     ensures first { D.first disk.new ≡ D.first disk.old }
     ensures told { S.told sources.new ≡ S.told sources.old }
     ensures ran { CopiesPiece (S.told sources.old) path.now from at part.new (D.calls disk.old) (D.calls disk.new) result }
-    ensures disk_strays { IfSome (history_told (D.first disk.old) (D.calls disk.old)) (λ h. at + from + length part.old ≤ length (held h) → D.strays disk.new ≡ D.strays disk.old) }
-    ensures source_strays { IfSome (S.told sources.old) (λ files. passes (content files path.now) (from + length part.old) ≡ false → S.strays sources.new ≡ S.strays sources.old) }
+    ensures disk_strays { IfSome (history_told (D.first disk.old) (D.calls disk.old))
+        (λ h. at + from + length part.old ≤ length (held h) → D.strays disk.new ≡ D.strays disk.old) }
+    ensures source_strays { IfSome (S.told sources.old) (λ files. passes (content files path.now) (from + length part.old) ≡ false
+        → S.strays sources.new ≡ S.strays sources.old) }
     ensures disk_cause { HasDiskCause (D.faults disk.old) (D.faults disk.new) result }
     ensures source_cause { HasSourceCause (S.faults sources.old) (S.faults sources.new) result }
 {

@@ -17,7 +17,8 @@ pub fn write_zeros<D: Disk>(disk: &mut D, at: u64, len: u64, room: &mut [u8]) ->
     requires room { piece ≤ length room.old }
     ensures first { D.first disk.new ≡ D.first disk.old }
     ensures ran { Runs (D.calls disk.old) (in_pieces at (replicate len 0)) (D.calls disk.new) result }
-    ensures strays { IfSome (history_told (D.first disk.old) (D.calls disk.old)) (λ h. at + len ≤ length (held h) → D.strays disk.new ≡ D.strays disk.old) }
+    ensures strays { IfSome (history_told (D.first disk.old) (D.calls disk.old)) (λ h. at + len ≤ length (held h)
+        → D.strays disk.new ≡ D.strays disk.old) }
     ensures cause { HasCause (D.faults disk.old) (D.faults disk.new) result }
 {
     room.fill(0);

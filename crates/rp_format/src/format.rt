@@ -38,7 +38,8 @@ pub fn write_tree<D: Disk>(
     ensures first { D.first disk.new ≡ D.first disk.old }
     ensures written { WritesTree tree.now (D.first disk.old) (D.calls disk.old) (D.calls disk.new) result }
     ensures range { IfSome (history_told (D.first disk.old) (D.calls disk.old)) (λ h. OnOk result (data_end tree.now ≤ length (held h))) }
-    ensures strays { IfSome (history_told (D.first disk.old) (D.calls disk.old)) (λ h. LieIn tree.now (length (held h)) → D.strays disk.new ≡ D.strays disk.old) }
+    ensures strays { IfSome (history_told (D.first disk.old) (D.calls disk.old)) (λ h. LieIn tree.now (length (held h))
+        → D.strays disk.new ≡ D.strays disk.old) }
     ensures cause { HasCause (D.faults disk.old) (D.faults disk.new) result }
 {
     let root = write_hashes(disk, tree, room)?;
@@ -58,7 +59,8 @@ fn write_hashes<D: Disk>(disk: &mut D, tree: &TreePlan, room: &mut [u8]) -> Resu
     ensures first { D.first disk.new ≡ D.first disk.old }
     ensures written { WritesAll tree.now (D.first disk.old) (D.calls disk.old) (D.calls disk.new) result }
     ensures range { IfSome (history_told (D.first disk.old) (D.calls disk.old)) (λ h. OnOk result (data_end tree.now ≤ length (held h))) }
-    ensures strays { IfSome (history_told (D.first disk.old) (D.calls disk.old)) (λ h. LieIn tree.now (length (held h)) → D.strays disk.new ≡ D.strays disk.old) }
+    ensures strays { IfSome (history_told (D.first disk.old) (D.calls disk.old)) (λ h. LieIn tree.now (length (held h))
+        → D.strays disk.new ≡ D.strays disk.old) }
     ensures cause { HasCause (D.faults disk.old) (D.faults disk.new) result }
 {
     let mut waiting = Waiting::new();
@@ -103,7 +105,8 @@ fn read_run<D: Disk>(
     ensures bytes { IfSome (history_told (D.first disk.old) (D.calls disk.old)) (λ h.
         OnOk result (run.new ≡ bytes_at (held h) (tree.now.data_at + 4096 * k) (length run.old))) }
     ensures digests { OnOk result (digests.new ≡ map (digest_of tree.now.salt) (cut (length digests.old) run.new)) }
-    ensures strays { IfSome (history_told (D.first disk.old) (D.calls disk.old)) (λ h. LieIn tree.now (length (held h)) → D.strays disk.new ≡ D.strays disk.old) }
+    ensures strays { IfSome (history_told (D.first disk.old) (D.calls disk.old)) (λ h. LieIn tree.now (length (held h))
+        → D.strays disk.new ≡ D.strays disk.old) }
     ensures cause { HasCause (D.faults disk.old) (D.faults disk.new) result }
 {
     disk.read(tree.data_at + BLOCK as u64 * k, run)?;
@@ -131,7 +134,8 @@ fn take_block<D: Disk>(
     ensures first { D.first disk.new ≡ D.first disk.old }
     ensures takes { (block : List ℕ) → digest ≡ digest_of tree.now.salt block
         → TakesBlock tree.now k builder.old builder.new (D.calls disk.old) (D.calls disk.new) block result }
-    ensures strays { IfSome (history_told (D.first disk.old) (D.calls disk.old)) (λ h. LieIn tree.now (length (held h)) → D.strays disk.new ≡ D.strays disk.old) }
+    ensures strays { IfSome (history_told (D.first disk.old) (D.calls disk.old)) (λ h. LieIn tree.now (length (held h))
+        → D.strays disk.new ≡ D.strays disk.old) }
     ensures cause { HasCause (D.faults disk.old) (D.faults disk.new) result }
 {
     builder.push_digest(digest, waiting)?;
@@ -158,7 +162,8 @@ fn finish<D: Disk>(
         → IfOk result (λ root. root ≡ root_hash tree.now.salt taken) }
     ensures failed { (taken : List (List ℕ)) → HasTaken builder.entry tree.now.salt taken
         → OnErr result (MadeFirst (D.calls disk.old) (writes_of tree.now.hash_at (left_puts tree.now taken)) (D.calls disk.new)) }
-    ensures strays { IfSome (history_told (D.first disk.old) (D.calls disk.old)) (λ h. LieIn tree.now (length (held h)) → D.strays disk.new ≡ D.strays disk.old) }
+    ensures strays { IfSome (history_told (D.first disk.old) (D.calls disk.old)) (λ h. LieIn tree.now (length (held h))
+        → D.strays disk.new ≡ D.strays disk.old) }
     ensures cause { HasCause (D.faults disk.old) (D.faults disk.new) result }
 {
     let root = builder.finish(waiting)?;

@@ -48,7 +48,8 @@ impl Waiting {
         requires ends { EndBy hash_at (2 ^ 64 - 1) (puts_of self.now) }
         ensures first { D.first disk.new ≡ D.first disk.old }
         ensures ran { Runs (D.calls disk.old) (writes_of hash_at (puts_of self.now)) (D.calls disk.new) result }
-        ensures strays { IfSome (history_told (D.first disk.old) (D.calls disk.old)) (λ h. EndBy hash_at (length (held h)) (puts_of self.now)
+        ensures strays { IfSome (history_told (D.first disk.old) (D.calls disk.old))
+            (λ h. EndBy hash_at (length (held h)) (puts_of self.now)
             → D.strays disk.new ≡ D.strays disk.old) }
         ensures cause { HasCause (D.faults disk.old) (D.faults disk.new) result }
     {

@@ -135,7 +135,8 @@ unless_fault (Some fault) slot value = Err fault
 -- what a header and the entries beside it say: a table, or the first test that fails
 unfoldable pub judged : ℕ → ℕ → Which → ℕ → List ℕ → List ℕ → Result Table CopyFault
 judged sector entries which sectors header array =
-    unless_fault (header_fault sector entries which sectors header array) (unordered_slot sector array entries) (table_of sector entries header array)
+    unless_fault (header_fault sector entries which sectors header array) (unordered_slot sector array entries)
+    (table_of sector entries header array)
 
 -- what the bytes of a copy's place say on a disk of this many sectors
 unfoldable pub answer : List ℕ → Which → ℕ → ℕ → Result Table CopyFault
@@ -156,7 +157,8 @@ header_fields table which sectors entries_crc own_crc =
     u64_bytes 0x5452415020494645 ∷ u32_bytes 0x00010000 ∷ u32_bytes 92 ∷ u32_bytes own_crc ∷ u32_bytes 0
     ∷ u64_bytes (header_place which sectors) ∷ u64_bytes (header_place (other which) sectors)
     ∷ u64_bytes (table.first / units) ∷ u64_bytes ((table.last + 1) / units - 1) ∷ guid_bytes table.disk
-    ∷ u64_bytes (array_place which table.sector table.entries sectors) ∷ u32_bytes table.entries ∷ u32_bytes 128 ∷ u32_bytes entries_crc ∷ [])
+    ∷ u64_bytes (array_place which table.sector table.entries sectors) ∷ u32_bytes table.entries ∷ u32_bytes 128
+    ∷ u32_bytes entries_crc ∷ [])
 
 -- the fields with their own checksum, which is over them with zeros in its place (UEFI 2.10, 5.3.2)
 unfoldable pub signed_fields : Table → Which → ℕ → ℕ → List ℕ
@@ -201,4 +203,5 @@ exact table which sectors = in_place which (header_bytes table which sectors (cr
 
 -- the exact copy of a table says that table, in each place of each disk with room for two
 abbrev pub ReadsBack : Table → Type 0
-ReadsBack table = (which : Which) (sectors : ℕ) → least_sectors table.sector table.entries ≤ sectors → sectors ≤ 2 ^ 35 → answer (exact table which sectors) which sectors table.sector ≡ Ok table
+ReadsBack table = (which : Which) (sectors : ℕ) → least_sectors table.sector table.entries ≤ sectors → sectors ≤ 2 ^ 35
+    → answer (exact table which sectors) which sectors table.sector ≡ Ok table

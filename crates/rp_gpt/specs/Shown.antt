@@ -138,7 +138,8 @@ rows_fault table = option_or
 -- they aren't before the backup copy; one of its rows
 unfoldable pub table_fault : ℕ → Table → Option TableFault
 table_fault len table =
-    if nat_lt table.first (first_usable table.sector table.entries) || nat_lt table.last table.first then Some (faults.Bounds table.first table.last)
+    if nat_lt table.first (first_usable table.sector table.entries) || nat_lt table.last table.first
+    then Some (faults.Bounds table.first table.last)
     else if nat_le (usable_end table.sector table.entries (len / table.sector)) table.last then Some (faults.TooShort len)
     else rows_fault table
 
@@ -203,5 +204,6 @@ accepted_as sector image empty nothing = accepted_blank sector image empty
 unfoldable pub accepted : ℕ → List ℕ → Empty → Result Seen TableFault
 accepted sector image empty =
     if nat_lt (2 ^ 44) (length image) then Err (faults.TooLong (length image))
-    else if not (length image % sector == 0) || nat_lt (sectors_of sector image) (least_sectors sector 128) then Err (faults.TooShort (length image))
+    else if not (length image % sector == 0) || nat_lt (sectors_of sector image) (least_sectors sector 128)
+    then Err (faults.TooShort (length image))
     else accepted_as sector image empty (shown sector image)

@@ -16,25 +16,34 @@ pub fn copies_read_back()
 
 /// The rows of a table that the bytes of a place stand for can be written.
 pub fn rows_can_be_written()
-    ensures { (bytes : List ℕ) (which : Which) (sectors sector : ℕ) (table : Table) → IsSector sector → answer bytes which sectors sector ≡ Ok table → AreWritableRows table }
+    ensures { (bytes : List ℕ) (which : Which) (sectors sector : ℕ) (table : Table) → IsSector sector
+        → answer bytes which sectors sector ≡ Ok table → AreWritableRows table }
 {}
 
 /// The whole table can, where its first usable unit fits 64 bits.
 pub fn tables_can_be_written()
-    ensures { (bytes : List ℕ) (which : Which) (sectors sector : ℕ) (table : Table) → IsSector sector → IsPlace sector sectors (length bytes) → answer bytes which sectors sector ≡ Ok table → table.first < 2 ^ 64 - 1 → IsWritable table }
+    ensures { (bytes : List ℕ) (which : Which) (sectors sector : ℕ) (table : Table) → IsSector sector
+        → IsPlace sector sectors (length bytes) → answer bytes which sectors sector ≡ Ok table → table.first < 2 ^ 64 - 1
+        → IsWritable table }
 {}
 
 /// What the primary copy says doesn't depend on the number of sectors.
 pub fn primary_has_no_size()
-    ensures { (bytes : List ℕ) (sectors others sector : ℕ) → answer bytes Which.Primary sectors sector ≡ answer bytes Which.Primary others sector }
+    ensures { (bytes : List ℕ) (sectors others sector : ℕ)
+        → answer bytes Which.Primary sectors sector ≡ answer bytes Which.Primary others sector }
 {}
 
 /// What a copy says depends on its header and its entries alone, and on the length of its place.
 pub fn answers_read_header_and_entries()
-    ensures { (bytes others : List ℕ) (which : Which) (sectors sector : ℕ) → length bytes ≡ length others → header_of sector bytes which ≡ header_of sector others which → (let entries = chosen_entries sector (length bytes) (header_of sector bytes which) in entry_bytes entries (array_of sector bytes which) ≡ entry_bytes entries (array_of sector others which)) → answer bytes which sectors sector ≡ answer others which sectors sector }
+    ensures { (bytes others : List ℕ) (which : Which) (sectors sector : ℕ) → length bytes ≡ length others
+        → header_of sector bytes which ≡ header_of sector others which
+        → (let entries = chosen_entries sector (length bytes) (header_of sector bytes which) in entry_bytes entries
+        (array_of sector bytes which) ≡ entry_bytes entries (array_of sector others which))
+        → answer bytes which sectors sector ≡ answer others which sectors sector }
 {}
 
 /// A place without the signature, as one whose header is zeros, is none.
 pub fn unsigned_is_none()
-    ensures { (bytes : List ℕ) (which : Which) (sectors sector : ℕ) → signature (header_of sector bytes which) ≢ 0x5452415020494645 → answer bytes which sectors sector ≡ Err Signature }
+    ensures { (bytes : List ℕ) (which : Which) (sectors sector : ℕ) → signature (header_of sector bytes which) ≢ 0x5452415020494645
+        → answer bytes which sectors sector ≡ Err Signature }
 {}

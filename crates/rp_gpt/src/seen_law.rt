@@ -15,13 +15,15 @@ ghost use Rattle.rp_gpt.specs.declared.table_fault.Empty.{Empty};
 /// What is seen of an image that is accepted: its table can be written and is in place, the places tell it by its origin, and
 /// each that is the same holds its exact copy.
 pub fn accepted_is_seen()
-    ensures { (sector : ℕ) (image : List ℕ) (empty : Empty) (seen : Seen) → IsSector sector → All (λ byte. byte < 256) image → accepted sector image empty ≡ Ok seen
+    ensures { (sector : ℕ) (image : List ℕ) (empty : Empty) (seen : Seen) → IsSector sector → All (λ byte. byte < 256) image
+        → accepted sector image empty ≡ Ok seen
         → IsSeen sector seen × IsSeenOf sector image seen }
 {}
 
 /// An image whose places hold the exact copies of a table in place is accepted as that table, with both copies the same.
 pub fn exact_places_are_accepted()
-    ensures { (image : List ℕ) (table : Table) (empty : Empty) → HoldsTable image table → IsWritable table → TableFits table → empty ≢ Empty.Require
+    ensures { (image : List ℕ) (table : Table) (empty : Empty) → HoldsTable image table → IsWritable table → TableFits table
+        → empty ≢ Empty.Require
         → accepted table.sector image empty ≡ Ok (seen_record table.sector image Origin.Primary table true true) }
 {}
 

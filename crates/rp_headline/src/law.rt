@@ -29,7 +29,8 @@ ghost use Rattle.rp_headline.specs.Left.{HasGoal, IsDoneWith, IsLeft, IsSafeIfHo
 
 /// A plan that is the goal for an accepted image is one of which the law of every stop speaks.
 pub fn goals_are_plans_for_their_images()
-    ensures { (sector : ℕ) (old : List ℕ) (empty : Empty) (seen : Seen) (target : ℕ) (defs : List Definition) (facts : List Fact) (seed : Guid)
+    ensures { (sector : ℕ) (old : List ℕ) (empty : Empty) (seen : Seen) (target : ℕ) (defs : List Definition) (facts : List Fact)
+        (seed : Guid)
         (plan : Plan) → IsPlanned sector old empty seen target defs facts seed plan → IsPlanFor sector old empty seen plan }
 {}
 
@@ -46,8 +47,10 @@ pub fn calls_carry_out_goals()
 
 /// Once all calls are done, the image's table is the goal of its old table and the definitions.
 pub fn the_table_is_the_goal()
-    ensures { (sector : ℕ) (old : List ℕ) (empty : Empty) (seen : Seen) (target : ℕ) (defs : List Definition) (facts : List Fact) (seed : Guid)
-        (plan : Plan) (body calls : List Call) → IsPlanned sector old empty seen target defs facts seed plan → AreCallsOf seen plan body calls
+    ensures { (sector : ℕ) (old : List ℕ) (empty : Empty) (seen : Seen) (target : ℕ) (defs : List Definition) (facts : List Fact)
+        (seed : Guid)
+        (plan : Plan) (body calls : List Call) → IsPlanned sector old empty seen target defs facts seed plan
+        → AreCallsOf seen plan body calls
         → ShowsGoal sector seen plan (all_done old calls) }
 {}
 
@@ -63,14 +66,16 @@ pub fn old_partitions_keep_place_and_bytes()
 
 /// New partitions hold their contents.
 pub fn new_partitions_hold_their_contents()
-    ensures { (sector : ℕ) (old : List ℕ) (empty : Empty) (seen : Seen) (target : ℕ) (defs : List Definition) (facts : List Fact) (seed : Guid)
+    ensures { (sector : ℕ) (old : List ℕ) (empty : Empty) (seen : Seen) (target : ℕ) (defs : List Definition) (facts : List Fact)
+        (seed : Guid)
         (plan : Plan) (sources : Sources) → IsPlanned sector old empty seen target defs facts seed plan → NotesFit plan
         → HoldContents plan (contents_for plan sources (grown old plan)) (all_done old (calls_for plan seen sources)) }
 {}
 
 /// The image is the final one.
 pub fn the_image_is_final()
-    ensures { (sector : ℕ) (old : List ℕ) (empty : Empty) (seen : Seen) (target : ℕ) (defs : List Definition) (facts : List Fact) (seed : Guid)
+    ensures { (sector : ℕ) (old : List ℕ) (empty : Empty) (seen : Seen) (target : ℕ) (defs : List Definition) (facts : List Fact)
+        (seed : Guid)
         (plan : Plan) (sources : Sources) → IsPlanned sector old empty seen target defs facts seed plan → NotesFit plan
         → IsFinal old seen plan (contents_for plan sources (grown old plan)) (all_done old (calls_for plan seen sources)) }
 {}
@@ -94,7 +99,8 @@ pub fn what_a_run_leaves()
         → AreCallsOf seen plan body calls → HasGoal sector old seen defs seed plan (all_done old calls) }
     ensures exact { (sector : ℕ) (old : List ℕ) (empty : Empty) (seen : Seen) (target : ℕ) (defs : List Definition) (facts : List Fact)
         (seed : Guid) (plan : Plan) (sources : Sources) → IsPlanned sector old empty seen target defs facts seed plan → NotesFit plan
-        → IsDoneWith sector old seen defs seed plan (contents_for plan sources (grown old plan)) (all_done old (calls_for plan seen sources)) }
+        → IsDoneWith sector old seen defs seed plan (contents_for plan sources (grown old plan))
+        (all_done old (calls_for plan seen sources)) }
 {}
 
 /// Stopped at any moment, from any start: the image could have been left at the start already; or a sync was done, and where no

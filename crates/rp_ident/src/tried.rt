@@ -27,7 +27,8 @@ pub(crate) fn tried_of(tried: &[Tried; KINDS], kind: Guid) -> u64
 
 /// Remembers a type's number, in the place of another type's.
 pub(crate) fn note(tried: &mut [Tried; KINDS], new: Tried)
-    ensures { (seed : Guid) (rows : List Row) → AreTried seed rows tried.old → IsTried seed rows new.kind new.next → AreTried seed rows tried.new }
+    ensures { (seed : Guid) (rows : List Row) → AreTried seed rows tried.old → IsTried seed rows new.kind new.next
+        → AreTried seed rows tried.new }
 {
     tried[slot_of(new.kind)] = new;
 }

@@ -36,7 +36,8 @@ pub(crate) fn used_of(rows: &[Row]) -> Used
 // Keeps the identifier of a row, unless it is zero.
 fn keep_row(used: &mut Used, row: &Row)
     ensures rising { IsRising used.old.numbers.items → IsRising used.new.numbers.items }
-    ensures found { used.new.whole ≡ true → (n : ℕ) → n ≢ 0 → list_any (λ m. m == n) used.new.numbers.items ≡ (number row.now.id == n || list_any (λ m. m == n) used.old.numbers.items) }
+    ensures found { used.new.whole ≡ true → (n : ℕ) → n ≢ 0
+        → list_any (λ m. m == n) used.new.numbers.items ≡ (number row.now.id == n || list_any (λ m. m == n) used.old.numbers.items) }
     ensures whole { used.new.whole ≡ true → used.old.whole ≡ true }
     ensures id { IsId row.now.id }
 {
@@ -50,7 +51,8 @@ fn keep_row(used: &mut Used, row: &Row)
 // Keeps a number.
 fn keep(used: &mut Used, number: u128)
     ensures rising { IsRising used.old.numbers.items → IsRising used.new.numbers.items }
-    ensures found { used.new.whole ≡ true → (n : ℕ) → list_any (λ m. m == n) used.new.numbers.items ≡ (number == n || list_any (λ m. m == n) used.old.numbers.items) }
+    ensures found { used.new.whole ≡ true → (n : ℕ)
+        → list_any (λ m. m == n) used.new.numbers.items ≡ (number == n || list_any (λ m. m == n) used.old.numbers.items) }
     ensures whole { used.new.whole ≡ true → used.old.whole ≡ true }
 {
     let at = place_for(used.numbers.as_slice(), number);

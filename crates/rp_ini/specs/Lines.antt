@@ -46,7 +46,8 @@ assignment_entry number (Some pair) = Ok (Assignment pair.0 pair.1)
 -- a line that begins with `[` is a header, and any other that isn't empty is an assignment
 abbrev pub entry_in : ℕ → List ℕ → Result Entry IniFault
 entry_in number [] = Ok Nothing
-entry_in number (byte ∷ bytes) = if byte == 91 then header_entry number (header_of (byte ∷ bytes)) else assignment_entry number (assignment_of (byte ∷ bytes))
+entry_in number (byte ∷ bytes) = if byte == 91 then header_entry number (header_of (byte ∷ bytes))
+    else assignment_entry number (assignment_of (byte ∷ bytes))
 
 -- what a logical line of at most 4,096 bytes says without the white space at its end, or its fault
 abbrev pub entry_of : Line → Result Entry IniFault
@@ -58,7 +59,8 @@ with_first section (Ok sections) = Ok (section ∷ sections)
 with_first section (Err fault) = Err fault
 
 -- an entry gives a section without assignments, or one with one: that of the nearest header above. `rest` gives those behind
-abbrev pub written_by : Option (List ℕ) → ℕ → Result Entry IniFault → (Option (List ℕ) → Result (List Section) IniFault) → Result (List Section) IniFault
+abbrev pub written_by : Option (List ℕ) → ℕ → Result Entry IniFault → (Option (List ℕ) → Result (List Section) IniFault)
+    → Result (List Section) IniFault
 written_by header number (Err fault) rest = Err fault
 written_by header number (Ok Nothing) rest = rest header
 written_by header number (Ok (Header name)) rest = with_first (record { name = name; assigns = [] }) (rest (Some name))
@@ -79,7 +81,8 @@ is_named name section = bytes_eq name section.name
 abbrev pub with_part : List Section → Section → List Section
 with_part [] part = part ∷ []
 with_part (section ∷ sections) part =
-    if is_named part.name section then record { name = section.name; assigns = section.assigns ++ part.assigns } ∷ sections else section ∷ with_part sections part
+    if is_named part.name section then record { name = section.name; assigns = section.assigns ++ part.assigns } ∷ sections
+    else section ∷ with_part sections part
 
 -- behind these sections, the parts by section: all of one name are one, in order of first appearance
 abbrev pub merged : List Section → Result (List Section) IniFault → Result (List Section) IniFault

@@ -48,8 +48,10 @@ assigned sections assign (Ok place) = Ok (record { sections = with_assign place 
 
 abbrev pub after_entry : Progress → ℕ → Entry → Result Progress IniFault
 after_entry progress number Nothing = Ok progress
-after_entry progress number (Header name) = Ok (record { sections = with_section name progress.sections; current = Some (place_of name progress.sections) })
-after_entry progress number (Assignment key value) = assigned progress.sections (record { key = key; value = value; line = number }) (open_place number progress.current)
+after_entry progress number (Header name) =
+    Ok (record { sections = with_section name progress.sections; current = Some (place_of name progress.sections) })
+after_entry progress number (Assignment key value) =
+    assigned progress.sections (record { key = key; value = value; line = number }) (open_place number progress.current)
 
 abbrev pub after_read : Progress → ℕ → Result Entry IniFault → Result Progress IniFault
 after_read progress number (Err fault) = Err fault

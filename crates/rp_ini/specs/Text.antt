@@ -67,4 +67,5 @@ logical_lines (line ∷ lines) =
 -- the next of the logical lines, if there is one, and the lines left
 abbrev pub IsNext : List Line → List Line → Option ℕ → List ℕ → Type 0
 IsNext before now None text = logical_lines before ≡ []
-IsNext before now (Some number) text = (logical_lines before ≡ record { number = number; text = text } ∷ logical_lines now) × (length now < length before)
+IsNext before now (Some number) text = (logical_lines before ≡ record { number = number; text = text } ∷ logical_lines now)
+    × (length now < length before)

@@ -90,7 +90,11 @@ impl Parser {
     }
 
     fn after_header(self, alloc: Global, name: &str) -> Result<Parser, IniFault>
-        ensures { Gives IniFault.Memory (Ok (record { sections = steps.with_section name.now self.sections; current = Some (steps.place_of name.now self.sections) })) result }
+        ensures { Gives IniFault.Memory (Ok (record {
+          sections = steps.with_section name.now self.sections;
+          current = Some
+              (steps.place_of name.now self.sections);
+        })) result }
     {
         let Parser { file, current: _ } = self;
         let (file, place) = file.with_section(alloc, name)?;
@@ -108,7 +112,8 @@ impl Parser {
         value: &str,
     ) -> Result<Parser, IniFault>
         ensures { Gives IniFault.Memory
-            (steps.assigned self.sections (record { key = key.now; value = value.now; line = number }) (steps.open_place number self.current)) result }
+            (steps.assigned self.sections (record { key = key.now; value = value.now; line = number })
+            (steps.open_place number self.current)) result }
     {
         let Parser { file, current } = self;
         let place = open_place(number, current)?;

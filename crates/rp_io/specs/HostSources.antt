@@ -8,4 +8,5 @@ failures sources = sources.faults
 
 -- a file of known bytes, at a known place, gives those from this place on
 abbrev pub PlacesRest : {F : Type 0} → (F → Option ℕ) → (F → Option (List ℕ)) → (F → Option (List ℕ)) → Type 0
-PlacesRest {F} place bytes rest = (file : F) (all : List ℕ) (at : ℕ) → bytes file ≡ Some all → place file ≡ Some at → rest file ≡ Some (drop at all)
+PlacesRest {F} place bytes rest = (file : F) (all : List ℕ) (at : ℕ) → bytes file ≡ Some all → place file ≡ Some at
+    → rest file ≡ Some (drop at all)

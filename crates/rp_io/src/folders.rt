@@ -42,8 +42,10 @@ pub trait Folders {
     /// or not. A path that isn't there is a fault.
     fn read(&mut self, alloc: Global, path: &str, limit: u64) -> Result<Content, IoFault>
         ensures told { told self.new ≡ told self.old }
-        ensures bytes { IfSome (told self.old) (λ tree. IfOk result (λ held. option_map (limited limit) (content tree.files path.now) ≡ Some held)) }
+        ensures bytes { IfSome (told self.old) (λ tree. IfOk result
+            (λ held. option_map (limited limit) (content tree.files path.now) ≡ Some held)) }
         ensures within { IfOk result (IsWithin limit) }
-        ensures strays { IfSome (told self.old) (λ tree. CountsStray (is_none (content tree.files path.now)) (strays self.old) (strays self.new)) }
+        ensures strays { IfSome (told self.old) (λ tree. CountsStray (is_none (content tree.files path.now)) (strays self.old)
+            (strays self.new)) }
         ensures cause { HasIoCause (faults self.old) (faults self.new) result };
 }

@@ -105,8 +105,10 @@ fn read_of<R: Files>(
     at: u64,
     buf: &mut [u8],
 ) -> io::Result<()>
-    ensures same { IfSome last.old (λ source. source.path.bytes ≡ path.now → PlacesRest R.File.stream_position R.File.stream_bytes R.File.remaining
-        → IfSome (R.File.stream_position source.file) (λ _. IfSome (R.File.stream_bytes source.file) (λ bytes. OnOk result (Reads (Some bytes) at (length buf.old) buf.new)))) }
+    ensures same { IfSome last.old (λ source. source.path.bytes ≡ path.now
+        → PlacesRest R.File.stream_position R.File.stream_bytes R.File.remaining
+        → IfSome (R.File.stream_position source.file)
+        (λ _. IfSome (R.File.stream_bytes source.file) (λ bytes. OnOk result (Reads (Some bytes) at (length buf.old) buf.new)))) }
     ensures kept { OnOk result (IsSomeAnd last.new (λ source. source.path.bytes ≡ path.now)) }
 {
     let mut source = source_at(rt, last.take(), path)?;
@@ -141,7 +143,8 @@ fn source_at<R: Files>(
 
 // The length of a file: by its end and not by its metadata, which give none of a block device.
 fn end_of<F: Seek>(file: &mut F) -> io::Result<u64>
-    ensures { IfSome (F.stream_position file.old) (λ _. IfSome (F.stream_bytes file.old) (λ bytes. IfOk result (λ len. len ≡ length bytes))) }
+    ensures { IfSome (F.stream_position file.old) (λ _. IfSome (F.stream_bytes file.old)
+        (λ bytes. IfOk result (λ len. len ≡ length bytes))) }
 {
     file.seek(SeekFrom::End(0))
 }
@@ -149,7 +152,8 @@ fn end_of<F: Seek>(file: &mut F) -> io::Result<u64>
 // Fills the buffer from an offset on. Where it is empty, no read would find that the offset is past the end.
 fn read_at<F: Read + Seek>(file: &mut F, at: u64, buf: &mut [u8]) -> io::Result<()>
     ensures { PlacesRest F.stream_position F.stream_bytes F.remaining
-        → IfSome (F.stream_position file.old) (λ _. IfSome (F.stream_bytes file.old) (λ bytes. OnOk result (Reads (Some bytes) at (length buf.old) buf.new))) }
+        → IfSome (F.stream_position file.old) (λ _. IfSome (F.stream_bytes file.old)
+        (λ bytes. OnOk result (Reads (Some bytes) at (length buf.old) buf.new))) }
 {
     if buf.is_empty() && at > file.seek(SeekFrom::End(0))? {
         return Err(ErrorKind::UnexpectedEof.into());

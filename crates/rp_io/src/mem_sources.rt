@@ -75,7 +75,8 @@ impl Sources for MemSources {
     fn read(&mut self, path: &str, at: u64, buf: &mut [u8]) -> Result<(), Failed>
         ensures told { files_of self.new ≡ files_of self.old }
         ensures bytes { OnOk result (Reads (content (files_of self.old) path.now) at (length buf.old) buf.new) }
-        ensures strays { CountsStray (passes (content (files_of self.old) path.now) (at + length buf.old)) (stray_calls self.old) (stray_calls self.new) }
+        ensures strays { CountsStray (passes (content (files_of self.old) path.now) (at + length buf.old)) (stray_calls self.old)
+            (stray_calls self.new) }
         ensures cause { HasCause (failures self.old) (failures self.new) result }
         ensures exact { FailsExactly self.old self.new (passes (content (files_of self.old) path.now) (at + length buf.old)) result }
     {

@@ -24,13 +24,15 @@ pub trait Sources {
     fn len(&mut self, path: &str) -> Result<u64, Failed>
         ensures told { told self.new ≡ told self.old }
         ensures len { IfSome (told self.old) (λ files. IfOk result (λ len. option_map length (content files path.now) ≡ Some len)) }
-        ensures strays { IfSome (told self.old) (λ files. CountsStray (is_none (content files path.now)) (strays self.old) (strays self.new)) }
+        ensures strays { IfSome (told self.old) (λ files. CountsStray (is_none (content files path.now)) (strays self.old)
+            (strays self.new)) }
         ensures cause { HasCause (faults self.old) (faults self.new) result };
 
     /// Fills the buffer with the bytes from `at` on. A path that isn't there and a range past the end are faults.
     fn read(&mut self, path: &str, at: u64, buf: &mut [u8]) -> Result<(), Failed>
         ensures told { told self.new ≡ told self.old }
         ensures bytes { IfSome (told self.old) (λ files. OnOk result (Reads (content files path.now) at (length buf.old) buf.new)) }
-        ensures strays { IfSome (told self.old) (λ files. CountsStray (passes (content files path.now) (at + length buf.old)) (strays self.old) (strays self.new)) }
+        ensures strays { IfSome (told self.old) (λ files. CountsStray (passes (content files path.now) (at + length buf.old))
+            (strays self.old) (strays self.new)) }
         ensures cause { HasCause (faults self.old) (faults self.new) result };
 }

@@ -22,7 +22,8 @@ ghost use Rattle.rp_layout.specs.Seats.{row_of, seat_of, units_at};
 pub fn partitions_keep_to_their_wants()
     ensures one_each { (table : Table) (matched : List (Option ℕ)) (wants : List Want) (areas : List Area) (news : List New) (kept : Placed)
         → length (laid table.rows matched wants areas news kept.areas) ≡ length wants }
-    ensures spot { (table : Table) (last : ℕ) (matched : List (Option ℕ)) (wants : List Want) (areas : List Area) (news : List New) (kept : Placed)
+    ensures spot { (table : Table) (last : ℕ) (matched : List (Option ℕ)) (wants : List Want) (areas : List Area) (news : List New)
+        (kept : Placed)
         (file : ℕ) (s : Spot) → IsReady table last matched wants areas news kept
         → spot_at (laid table.rows matched wants areas news kept.areas) file ≡ Some s
         → (s.file ≡ file) × IsSpot table.first last (want_at wants file) (row_of table.rows matched file) s }
@@ -30,11 +31,13 @@ pub fn partitions_keep_to_their_wants()
 
 /// Two partitions share no unit, their paddings too, and none has a unit of a row but its own.
 pub fn partitions_are_apart()
-    ensures apart { (table : Table) (last : ℕ) (matched : List (Option ℕ)) (wants : List Want) (areas : List Area) (news : List New) (kept : Placed)
+    ensures apart { (table : Table) (last : ℕ) (matched : List (Option ℕ)) (wants : List Want) (areas : List Area) (news : List New)
+        (kept : Placed)
         (file other : ℕ) (s t : Spot) → IsReady table last matched wants areas news kept → file ≢ other
         → spot_at (laid table.rows matched wants areas news kept.areas) file ≡ Some s
         → spot_at (laid table.rows matched wants areas news kept.areas) other ≡ Some t → Precedes s t ⊎ Precedes t s }
-    ensures off_rows { (table : Table) (last : ℕ) (matched : List (Option ℕ)) (wants : List Want) (areas : List Area) (news : List New) (kept : Placed)
+    ensures off_rows { (table : Table) (last : ℕ) (matched : List (Option ℕ)) (wants : List Want) (areas : List Area)
+        (news : List New) (kept : Placed)
         (file : ℕ) (s : Spot) (place : ℕ) (row : Row) → IsReady table last matched wants areas news kept
         → spot_at (laid table.rows matched wants areas news kept.areas) file ≡ Some s
         → slice_get table.rows place ≡ Some row → slice_get matched file ≢ Some (Some place) → IsOff s row }
@@ -43,19 +46,23 @@ pub fn partitions_are_apart()
 /// Each new definition that was placed lies somewhere, each that was dropped nowhere, and each anchor somewhere; each of
 /// them once.
 pub fn placed_ones_lie_once()
-    ensures placed { (table : Table) (last : ℕ) (matched : List (Option ℕ)) (wants : List Want) (areas : List Area) (news : List New) (kept : Placed)
+    ensures placed { (table : Table) (last : ℕ) (matched : List (Option ℕ)) (wants : List Want) (areas : List Area) (news : List New)
+        (kept : Placed)
         (k area : ℕ) (n : New) → IsReady table last matched wants areas news kept
         → slice_get news k ≡ Some n → slice_get kept.areas k ≡ Some (Some area)
         → (s : Spot) × (spot_at (laid table.rows matched wants areas news kept.areas) n.file ≡ Some s) }
-    ensures dropped { (table : Table) (last : ℕ) (matched : List (Option ℕ)) (wants : List Want) (areas : List Area) (news : List New) (kept : Placed)
+    ensures dropped { (table : Table) (last : ℕ) (matched : List (Option ℕ)) (wants : List Want) (areas : List Area)
+        (news : List New) (kept : Placed)
         (k : ℕ) (n : New) → IsReady table last matched wants areas news kept
         → slice_get news k ≡ Some n → slice_get kept.areas k ≡ Some None
         → spot_at (laid table.rows matched wants areas news kept.areas) n.file ≡ None }
-    ensures anchors { (table : Table) (last : ℕ) (matched : List (Option ℕ)) (wants : List Want) (areas : List Area) (news : List New) (kept : Placed)
+    ensures anchors { (table : Table) (last : ℕ) (matched : List (Option ℕ)) (wants : List Want) (areas : List Area)
+        (news : List New) (kept : Placed)
         (i file : ℕ) (area : Area) → IsReady table last matched wants areas news kept
         → slice_get areas i ≡ Some area → area.anchor ≡ Some file
         → (s : Spot) × (spot_at (laid table.rows matched wants areas news kept.areas) file ≡ Some s) }
-    ensures once { (table : Table) (last : ℕ) (matched : List (Option ℕ)) (wants : List Want) (areas : List Area) (news : List New) (kept : Placed)
+    ensures once { (table : Table) (last : ℕ) (matched : List (Option ℕ)) (wants : List Want) (areas : List Area) (news : List New)
+        (kept : Placed)
         → IsReady table last matched wants areas news kept
         → AllPairs (λ s t. s.file ≢ t.file) (spots_of table.rows matched wants areas news kept.areas) }
 {}
@@ -63,7 +70,8 @@ pub fn placed_ones_lie_once()
 /// A table whose rows are those that were there, each with the units of its definition's partition, and then the new ones,
 /// is laid out.
 pub fn rows_after_are_laid_out()
-    ensures { (table : Table) (last : ℕ) (matched : List (Option ℕ)) (wants : List Want) (areas : List Area) (news : List New) (kept : Placed)
+    ensures { (table : Table) (last : ℕ) (matched : List (Option ℕ)) (wants : List Want) (areas : List Area) (news : List New)
+        (kept : Placed)
         (again : Table) → IsReady table last matched wants areas news kept → again.first ≡ table.first → again.last ≡ last
         → map reach_of_row again.rows
         ≡ map reach_of (extents_after table.rows matched news (laid table.rows matched wants areas news kept.areas))
@@ -73,10 +81,12 @@ pub fn rows_after_are_laid_out()
 /// The partitions of each area are a stack: they fit, keep to the minima, and the anchor is the first. So they are by wants
 /// that ask for less.
 pub fn partitions_are_stacks()
-    ensures stacks { (table : Table) (last : ℕ) (matched : List (Option ℕ)) (wants : List Want) (areas : List Area) (news : List New) (kept : Placed)
+    ensures stacks { (table : Table) (last : ℕ) (matched : List (Option ℕ)) (wants : List Want) (areas : List Area) (news : List New)
+        (kept : Placed)
         (before : List Piece) (others : List (List Piece)) → IsReady table last matched wants areas news kept
         → stacks_of table.rows matched wants areas news kept.areas ≡ before ∷ others
-        → IsStack wants (area_before table.first last (rows_by_start table matched)) before × AreStacks last wants (rows_by_start table matched) others }
+        → IsStack wants (area_before table.first last (rows_by_start table matched)) before
+        × AreStacks last wants (rows_by_start table matched) others }
     ensures less { (own wants : List Want) (area : Area) (ps : List Piece)
         → ((file : ℕ) → ((want_at own file).min ≤ (want_at wants file).min) × ((want_at own file).pad_min ≤ (want_at wants file).pad_min))
         → IsStack wants area ps → IsStack own area ps }
@@ -88,7 +98,8 @@ pub fn partitions_are_stacks()
 pub fn partitions_stay_as_they_are()
     ensures seats { (own : List Want) (file has : ℕ) (want : Want) → (want_at own file).min ≤ (want_at own file).max
         → 1 ≤ max (grains_up has) want.min → AsksFor (want_at own file) has want → IsSeat own (seat_of want file has) }
-    ensures idle { (table : Table) (last : ℕ) (matched : List (Option ℕ)) (wants : List Want) (areas : List Area) (news : List New) (kept : Placed)
+    ensures idle { (table : Table) (last : ℕ) (matched : List (Option ℕ)) (wants : List Want) (areas : List Area) (news : List New)
+        (kept : Placed)
         (own : List Want) (i limit : ℕ) (area : Area) → IsReady table last matched wants areas news kept
         → ((file : ℕ) → (want_at own file).min ≤ (want_at own file).max)
         → ((file : ℕ) → AsksFor (want_at own file) (units_at table.rows matched file) (want_at wants file))
@@ -98,21 +109,26 @@ pub fn partitions_stay_as_they_are()
 
 /// The rows after are the old ones with each area's partitions woven in: the same stand in both.
 pub fn rows_after_are_woven()
-    ensures { (table : Table) (last : ℕ) (matched : List (Option ℕ)) (wants : List Want) (areas : List Area) (news : List New) (kept : Placed)
+    ensures { (table : Table) (last : ℕ) (matched : List (Option ℕ)) (wants : List Want) (areas : List Area) (news : List New)
+        (kept : Placed)
         (before : List Piece) (others : List (List Piece)) → IsReady table last matched wants areas news kept
         → stacks_of table.rows matched wants areas news kept.areas ≡ before ∷ others
-        → AreAmong (extents_after table.rows matched news (laid table.rows matched wants areas news kept.areas)) (rows_again table last matched wants before others)
-        × AreAmong (rows_again table last matched wants before others) (extents_after table.rows matched news (laid table.rows matched wants areas news kept.areas)) }
+        → AreAmong (extents_after table.rows matched news (laid table.rows matched wants areas news kept.areas))
+        (rows_again table last matched wants before others)
+        × AreAmong (rows_again table last matched wants before others)
+        (extents_after table.rows matched news (laid table.rows matched wants areas news kept.areas)) }
 {}
 
 /// A table with the rows after is one whose areas were filled, by the wants of definitions as they stand; the areas of the
 /// table before are the same by these.
 pub fn rows_after_fill_the_areas()
-    ensures areas { (table : Table) (last : ℕ) (matched : List (Option ℕ)) (wants : List Want) (areas : List Area) (news : List New) (kept : Placed)
+    ensures areas { (table : Table) (last : ℕ) (matched : List (Option ℕ)) (wants : List Want) (areas : List Area) (news : List New)
+        (kept : Placed)
         (own : List Want) → IsReady table last matched wants areas news kept
         → ((file : ℕ) → AsksFor (want_at own file) (units_at table.rows matched file) (want_at wants file))
         → areas_of table last matched own ≡ areas_of table last matched wants }
-    ensures filled { (table : Table) (last : ℕ) (matched : List (Option ℕ)) (wants : List Want) (areas : List Area) (news : List New) (kept : Placed)
+    ensures filled { (table : Table) (last : ℕ) (matched : List (Option ℕ)) (wants : List Want) (areas : List Area) (news : List New)
+        (kept : Placed)
         (own : List Want) (again : Table) (rematched : List (Option ℕ)) (before : List Piece) (others : List (List Piece))
         → IsReady table last matched wants areas news kept
         → ((file : ℕ) → AsksFor (want_at own file) (units_at table.rows matched file) (want_at wants file))

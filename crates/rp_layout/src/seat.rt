@@ -62,7 +62,8 @@ pub fn seats(
     requires news { All (λ n. slice_get matched.now n.file ≡ Some None) news.now }
     requires one_each { length places.now ≡ length news.now }
     requires places { All (λ p. IfSome p (λ a. a < length areas.now)) places.now }
-    ensures { IfOk result (λ seats. seats.items ≡ map (λ e. seats_of rows.now matched.now wants.now (files_at news.now places.now e)) (enumerate_from 0 areas.now)) }
+    ensures { IfOk result (λ seats. seats.items ≡ map
+        (λ e. seats_of rows.now matched.now wants.now (files_at news.now places.now e)) (enumerate_from 0 areas.now)) }
 {
     let mut seats = anchors(alloc, rows, matched, wants, areas)?;
     add_news(wants, news, places, &mut seats)?;
@@ -127,7 +128,8 @@ fn anchors(
     requires wants { length matched.now ≡ length wants.now }
     requires rows { All (λ m. IfSome m (λ p. p < length rows.now)) matched.now }
     requires anchors { All (λ a. IfSome a.anchor (λ f. f < length matched.now)) areas.now }
-    ensures { IfOk result (λ seats. seats.items ≡ map (λ (a : Area). seats_of rows.now matched.now wants.now (cons_option a.anchor [])) areas.now) }
+    ensures { IfOk result (λ seats. seats.items ≡ map
+        (λ (a : Area). seats_of rows.now matched.now wants.now (cons_option a.anchor [])) areas.now) }
 {
     let mut seats = Vec::new(alloc);
     for area in areas {

@@ -5,8 +5,6 @@ mod bytes;
 mod folders;
 mod input;
 mod sources;
-#[cfg(test)]
-mod tests;
 mod texts;
 
 pub use folders::MadeFolders;

@@ -4,8 +4,6 @@
 mod growing;
 mod looking;
 mod refusal;
-#[cfg(test)]
-mod tests;
 
 pub use growing::grow;
 pub use looking::{NoRoom, look};

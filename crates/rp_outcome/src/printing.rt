@@ -115,8 +115,10 @@ fn print_word<K: Sink>(out: &mut K, word: &Word) -> Result<(), Failed>
 // Prints the name of a definition file, or of its drop-in of this name where there is one.
 #[tactic(auto, using(crate::proofs::Printed::then_all, crate::proofs::Printed::then_part, crate::proofs::Printed::part_more))]
 fn print_piece<K: Sink>(out: &mut K, file: &str, part: &str) -> Result<(), Failed>
-    ensures done { OnOk result (PrintsAll (output K.told K.faults out.old) (output K.told K.faults out.new) (piece_text file.now part.now)) }
-    ensures failed { OnErr result (PrintsPart (output K.told K.faults out.old) (output K.told K.faults out.new) (piece_text file.now part.now)) }
+    ensures done { OnOk result (PrintsAll (output K.told K.faults out.old) (output K.told K.faults out.new)
+        (piece_text file.now part.now)) }
+    ensures failed { OnErr result (PrintsPart (output K.told K.faults out.old) (output K.told K.faults out.new)
+        (piece_text file.now part.now)) }
 {
     if part.is_empty() {
         print(out, file)

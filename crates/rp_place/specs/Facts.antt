@@ -26,7 +26,8 @@ available_in areas news places k area = (area_at areas area).span - (area_at are
 
 -- a candidate isn't behind another: by what is available, then by first grain, then by place
 abbrev pub IsNoLater : Candidate → Candidate → Type 0
-IsNoLater a b = (a.available < b.available) ⊎ ((a.available ≡ b.available) × ((a.from < b.from) ⊎ ((a.from ≡ b.from) × (a.place ≤ b.place))))
+IsNoLater a b = (a.available < b.available)
+    ⊎ ((a.available ≡ b.available) × ((a.from < b.from) ⊎ ((a.from ≡ b.from) × (a.place ≤ b.place))))
 
 -- an area as a candidate, where so many grains are available in each
 abbrev pub as_candidate : List Area → (ℕ → ℕ) → ℕ → Candidate

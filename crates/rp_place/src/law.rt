@@ -18,7 +18,8 @@ pub fn each_goes_to_the_least_area()
         → placed areas news threshold ≡ Ok places → IsPlaced areas news threshold places }
     ensures fits { (areas : List Area) (news : List New) (threshold : ℤ) (places : List (Option ℕ))
         → All (λ a. a.used ≤ a.span) areas → placed areas news threshold ≡ Ok places → IsPlacement areas news threshold places }
-    ensures no_slot { (areas : List Area) (news : List New) (threshold : ℤ) (file : ℕ) → placed areas news threshold ≢ Err (PlaceFault.Slot file) }
+    ensures no_slot { (areas : List Area) (news : List New) (threshold : ℤ) (file : ℕ)
+        → placed areas news threshold ≢ Err (PlaceFault.Slot file) }
 {}
 
 /// The placement that is kept has the greatest threshold from 0 to 2^31 - 1 at which all that are kept have an area and a
@@ -37,7 +38,8 @@ pub fn no_greater_threshold_succeeds()
 /// In each area of a table, what its anchor uses (its least and its padding's) and the needs that are placed there are at
 /// most its span. So a share of the span has room for all minima.
 pub fn minima_fit()
-    ensures { (table : Table) (last : ℕ) (matched : List (Option ℕ)) (wants : List Want) (areas : List Area) (news : List New) (free : ℕ) (p : Placed)
+    ensures { (table : Table) (last : ℕ) (matched : List (Option ℕ)) (wants : List Want) (areas : List Area) (news : List New)
+        (free : ℕ) (p : Placed)
         → areas_of table last matched wants ≡ Ok areas → settled areas news free ≡ Ok p
         → (place : ℕ) (area : Area) → slice_get areas place ≡ Some area → area.used + needs_in place news p.areas ≤ area.span }
 {}

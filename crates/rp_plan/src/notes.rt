@@ -89,7 +89,8 @@ pub(crate) fn add_notes(
     requires few { length kept.now ≤ 256 }
     requires defs { length defs.now ≤ 256 }
     requires sound { All IsSound defs.now }
-    ensures { OnOk result (notes.new ≡ notes.old ++ map (new_note seed defs.now facts.now free kept.now) (enumerate_from free (kept_of matched.now threshold defs.now))) }
+    ensures { OnOk result (notes.new ≡ notes.old ++ map (new_note seed defs.now facts.now free kept.now)
+        (enumerate_from free (kept_of matched.now threshold defs.now))) }
 {
     let mut slot = free;
     for (file, def) in defs.iter().enumerate() {

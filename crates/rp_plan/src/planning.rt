@@ -111,7 +111,8 @@ fn areas_for(
     wants: &[Want],
 ) -> Result<List<Area>, Demand>
     requires asked { IsAsked seen.now target defs.now facts.now matched.now wants.now }
-    ensures gives { Gives Demand.Memory (after of_area (areas_of seen.now.shown (last_for seen.now target) matched.now wants.now) (λ areas. Ok areas)) result }
+    ensures gives { Gives Demand.Memory (after of_area (areas_of seen.now.shown (last_for seen.now target) matched.now wants.now)
+        (λ areas. Ok areas)) result }
     ensures used { IfOk result (All (λ (a : Space). a.used ≤ a.span)) }
 {
     let last = last_of(seen, target);
@@ -241,7 +242,9 @@ fn goal_table(
 ) -> Result<Table, Demand>
     requires given { IsGiven seen.now target defs.now matched.now }
     requires kept { kept.now ≡ files_kept matched.now threshold defs.now }
-    ensures gives { Gives Demand.Memory (after of_ident (named (table_laid seen.now target (rows_laid_out seen.now.shown.rows matched.now threshold defs.now spots.now)) (namings_of facts.now matched.now (length seen.now.shown.rows) kept.now defs.now) seed) (λ table. Ok table)) result }
+    ensures gives { Gives Demand.Memory (after of_ident
+        (named (table_laid seen.now target (rows_laid_out seen.now.shown.rows matched.now threshold defs.now spots.now))
+        (namings_of facts.now matched.now (length seen.now.shown.rows) kept.now defs.now) seed) (λ table. Ok table)) result }
     ensures rows { IfOk result (λ table. length seen.now.shown.rows ≤ length table.rows) }
 {
     let old = seen.shown.rows.as_slice();

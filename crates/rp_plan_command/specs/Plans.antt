@@ -28,12 +28,15 @@ Tells json definitions out after status (Ok planned) =
 Tells json definitions out after status (Err refusal) = Refuses out after refusal status
 
 -- what is planned by definitions that were read is told
-abbrev pub PlansRead : Request → Bool → Definitions → Device → Device → Store (List Stored) → Store (List Stored) → Output → Output → ℕ → Type 0
+abbrev pub PlansRead : Request → Bool → Definitions → Device → Device → Store (List Stored) → Store (List Stored)
+    → Output → Output → ℕ → Type 0
 PlansRead request json definitions disk later sources drained out after status =
-    (answer : Result Planned Refusal) × PlansImage request definitions.list disk later sources drained answer × Tells json definitions out after status answer
+    (answer : Result Planned Refusal) × PlansImage request definitions.list disk later sources drained answer
+    × Tells json definitions out after status answer
 
 -- where the definitions are refused, the disk and the sources aren't asked
-abbrev pub PlansBehind : Request → Bool → Result Definitions Refusal → Device → Device → Store (List Stored) → Store (List Stored) → Output → Output → ℕ → Type 0
+abbrev pub PlansBehind : Request → Bool → Result Definitions Refusal → Device → Device → Store (List Stored) → Store (List Stored)
+    → Output → Output → ℕ → Type 0
 PlansBehind request json (Err refusal) disk later sources drained out after status =
     (later ≡ disk) × (drained ≡ sources) × Refuses out after refusal status
 PlansBehind request json (Ok definitions) disk later sources drained out after status =

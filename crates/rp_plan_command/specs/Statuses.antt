@@ -42,7 +42,8 @@ pub record ByStatus (request : Request) (json : Bool) (dirs : List (List ℕ)) (
   pub only_read : IsOnlyRead disk later
   pub causes : HasCauses disk later out after status
   pub files : HasFileCauses folders read sources drained out after status
-  pub one_of : IsRefused status ⊎ (status ≡ exit.done) ⊎ (status ≡ exit.disk) ⊎ (status ≡ exit.files) ⊎ (status ≡ exit.sink) ⊎ (status ≡ exit.memory)
+  pub one_of : IsRefused status ⊎ (status ≡ exit.done) ⊎ (status ≡ exit.disk) ⊎ (status ≡ exit.files) ⊎ (status ≡ exit.sink)
+      ⊎ (status ≡ exit.memory)
   pub done : status ≡ exit.done → WhereTold folders disk sources (λ tree image files.
       IsOkAnd (told_plan request dirs tree image files) (λ told. PrintsAll out after (planned_report json told.0 told.1)))
   pub cut : status ≡ exit.sink → WhereTold folders disk sources (λ tree image files.

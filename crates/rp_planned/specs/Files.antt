@@ -16,6 +16,7 @@ TellsFailure folders read sources drained out after =
 
 -- a failure of folders or sources has a status of its own and comes only where they counted it, and none is passed over
 -- where the command is done
-pub record HasFileCauses (folders read : Store Tree) (sources drained : Store (List Stored)) (out after : Output) (status : ℕ) : Type 0 where
+pub record HasFileCauses (folders read : Store Tree) (sources drained : Store (List Stored)) (out after : Output)
+    (status : ℕ) : Type 0 where
   pub failed : status ≡ exit.files → TellsFailure folders read sources drained out after
   pub kept : status ≡ exit.done → (read.faults ≡ folders.faults) × (drained.faults ≡ sources.faults)

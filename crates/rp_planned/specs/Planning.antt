@@ -52,7 +52,8 @@ with_seen seen plan = record { seen = seen; plan = plan }
 -- what is planned by these facts, or the refusal of the first demand
 abbrev pub planned_by : Request → List Definition → Seen → List Fact → Result Planned Refusal
 planned_by request list seen known =
-    and_then (refused (demand_refusal list) (goal seen (target_of request.size seen) list known request.seed)) (λ plan. Ok (with_seen seen plan))
+    and_then (refused (demand_refusal list) (goal seen (target_of request.size seen) list known request.seed))
+    (λ plan. Ok (with_seen seen plan))
 
 -- the same, by what the sources hold, unless the image has to be repaired first
 abbrev pub planned_unless : Bool → Request → List Definition → List Stored → Seen → Result Planned Refusal
@@ -85,7 +86,8 @@ pub record ReadsImage (sector : ℕ) (empty : Empty) (before now : Device) (answ
   pub cause : HasStageCause disk_refusal before.faults now.faults answer
 
 -- the wanted sources were asked for their facts; no call strayed but one that asks for a wanted source that isn't there
-pub record AsksSources (seed : Guid) (table : Table) (list : List Definition) (before now : Store (List Stored)) (answer : Result (List Fact) Refusal) : Type 0 where
+pub record AsksSources (seed : Guid) (table : Table) (list : List Definition) (before now : Store (List Stored))
+    (answer : Result (List Fact) Refusal) : Type 0 where
   pub told : now.told ≡ before.told
   pub strays : IfSome before.told (λ files. (now.strays ≡ before.strays)
       ⊎ ((answer ≡ Err source_refusal) × Any (IsMissing files list) (wanted_of table list)))
@@ -100,17 +102,22 @@ PlansBy request list seen (Err refusal) answer = answer ≡ Err refusal
 PlansBy request list seen (Ok known) answer = (answer ≡ planned_by request list seen known) ⊎ (answer ≡ Err memory_refusal)
 
 -- an image that has to be repaired first is refused; else the sources are asked, and the goal is planned
-abbrev pub PlansUnless : Bool → Request → List Definition → Seen → Store (List Stored) → Store (List Stored) → Result Planned Refusal → Type 0
+abbrev pub PlansUnless : Bool → Request → List Definition → Seen → Store (List Stored) → Store (List Stored)
+    → Result Planned Refusal → Type 0
 PlansUnless true request list seen before now answer = (answer ≡ Err repair_refusal) × (now ≡ before)
 PlansUnless false request list seen before now answer =
-    (known : Result (List Fact) Refusal) × AsksSources request.seed seen.shown list before now known × PlansBy request list seen known answer
+    (known : Result (List Fact) Refusal) × AsksSources request.seed seen.shown list before now known
+    × PlansBy request list seen known answer
 
 -- the sources aren't asked where the image is refused
-abbrev pub PlansSeen : Request → List Definition → Result Seen Refusal → Store (List Stored) → Store (List Stored) → Result Planned Refusal → Type 0
+abbrev pub PlansSeen : Request → List Definition → Result Seen Refusal → Store (List Stored) → Store (List Stored)
+    → Result Planned Refusal → Type 0
 PlansSeen request list (Err refusal) before now answer = (answer ≡ Err refusal) × (now ≡ before)
 PlansSeen request list (Ok seen) before now answer = PlansUnless (must_repair request.size seen) request list seen before now answer
 
 -- the image was read, then the sources were asked, and what is planned by both is the answer
-abbrev pub PlansImage : Request → List Definition → Device → Device → Store (List Stored) → Store (List Stored) → Result Planned Refusal → Type 0
+abbrev pub PlansImage : Request → List Definition → Device → Device → Store (List Stored) → Store (List Stored)
+    → Result Planned Refusal → Type 0
 PlansImage request list disk later sources drained answer =
-    (seen : Result Seen Refusal) × ReadsImage request.sector request.empty disk later seen × PlansSeen request list seen sources drained answer
+    (seen : Result Seen Refusal) × ReadsImage request.sector request.empty disk later seen
+    × PlansSeen request list seen sources drained answer

@@ -35,7 +35,8 @@ IsReadingRefusal refusal = (refusal.status ≡ exit.definitions) ⊎ (refusal �
 
 -- definitions were read from folders, with this answer: what they tell, and over every folders well formed definitions or
 -- a refusal
-pub record ReadsDefinitions (arch : Arch) (dirs : List (List ℕ)) (before now : Store Tree) (answer : Result Definitions Refusal) : Type 0 where
+pub record ReadsDefinitions (arch : Arch) (dirs : List (List ℕ)) (before now : Store Tree)
+    (answer : Result Definitions Refusal) : Type 0 where
   pub told : now.told ≡ before.told
   pub strays : IfSome before.told (λ tree. now.strays ≡ before.strays)
   pub settled : IfSome before.told (λ tree. Settles folder_refusal (definitions_in arch tree dirs) answer)

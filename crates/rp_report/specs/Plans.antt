@@ -29,7 +29,8 @@ change_word Same = codes "same"
 
 -- the length that the image is to have, and the usable sectors
 unfoldable pub bounds_text : ℕ → Table → List ℕ
-bounds_text target table = codes "plan target " ++ decimal target ++ codes " usable " ++ decimal table.first ++ codes "-" ++ decimal table.last
+bounds_text target table = codes "plan target " ++ decimal target ++ codes " usable " ++ decimal table.first ++ codes "-"
+    ++ decimal table.last
 
 -- the line of the whole: these, and the disk's GUID
 unfoldable pub target_line : ℕ → Table → List ℕ
@@ -71,5 +72,6 @@ rows_text list plan = flat_map (noted_line list) (noted_of plan) ++ flat_map (dr
 
 -- the whole
 unfoldable pub plan_bytes : Plan → Definitions → ℕ → ℕ → Bool → Option (List ℕ) → List ℕ
-plan_bytes plan definitions steps writes applied reset = target_line plan.target plan.goal ++ rows_text definitions.list plan ++ reset_text reset
+plan_bytes plan definitions steps writes applied reset =
+    target_line plan.target plan.goal ++ rows_text definitions.list plan ++ reset_text reset
     ++ (ignored_line definitions.ignored ++ steps_line steps writes ++ applied_line applied)

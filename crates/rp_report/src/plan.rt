@@ -49,7 +49,8 @@ fn plan_lines(
     reset: Option<&[u16]>,
 ) -> Result<String, AllocError>
     requires { length plan.now.notes ≡ length plan.now.goal.rows }
-    ensures { IfOk result (λ text. string_bytes text ≡ plan_bytes plan.now definitions.now steps writes applied (option_copied reset.entry)) }
+    ensures { IfOk result (λ text. string_bytes text ≡ plan_bytes plan.now definitions.now steps writes applied
+        (option_copied reset.entry)) }
 {
     let mut text = String::new(alloc);
     push_target(&mut text, plan.target, &plan.goal)?;

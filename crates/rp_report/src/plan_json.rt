@@ -27,7 +27,8 @@ pub fn plan_json_text(
     reset: Option<&[u16]>,
 ) -> Result<String, AllocError>
     requires { length plan.now.notes ≡ length plan.now.goal.rows }
-    ensures { IfOk result (λ text. string_bytes text ≡ plan_json plan.now definitions.now steps writes applied (option_copied reset.entry)) }
+    ensures { IfOk result (λ text. string_bytes text ≡ plan_json plan.now definitions.now steps writes applied
+        (option_copied reset.entry)) }
 {
     let value = plan_value(alloc, plan, definitions, steps, writes, applied, reset)?;
     let mut text = value.to_string(alloc)?;

@@ -16,7 +16,8 @@ ghost use Rattle.rp_reset.specs.Reset.{is_reset, reset};
 /// The plan of a reset is well formed for what was seen, and fits it, whichever copy was read. It keeps the image's length,
 /// each of its rows is the same, and its numbers are within their fields where those of the shown table are.
 pub fn resets_fit()
-    ensures fits { (seen : Seen) (defs : List Definition) (plan : Plan) → IsPlannable seen → reset seen defs ≡ Ok (Some plan) → Fits seen plan }
+    ensures fits { (seen : Seen) (defs : List Definition) (plan : Plan) → IsPlannable seen → reset seen defs ≡ Ok (Some plan)
+        → Fits seen plan }
     ensures len { (seen : Seen) (defs : List Definition) (plan : Plan) → reset seen defs ≡ Ok (Some plan) → plan.target ≡ seen.sectors }
     ensures same { (seen : Seen) (defs : List Definition) (plan : Plan) → reset seen defs ≡ Ok (Some plan)
         → All (λ (noted : Noted). noted.1.change ≡ Change.Same) (noted_of plan) }

@@ -41,7 +41,8 @@ fn plan_without(
 ) -> Result<Option<Plan>, Memory>
     requires rows { length seen.now.shown.rows ≤ 1024 }
     requires defs { length defs.now ≤ 256 }
-    ensures { IfOk result (λ plan. plan ≡ plan_where (slots_out_of matched.now defs.now seen.now.shown.rows) (plan_to seen.now (table_left seen.now.shown matched.now defs.now))) }
+    ensures { IfOk result (λ plan. plan ≡ plan_where (slots_out_of matched.now defs.now seen.now.shown.rows)
+        (plan_to seen.now (table_left seen.now.shown matched.now defs.now))) }
 {
     let rows = seen.shown.rows.as_slice();
     if slots_out(alloc, matched, defs, rows)?.is_empty() {

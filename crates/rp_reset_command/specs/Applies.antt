@@ -32,14 +32,16 @@ abbrev pub outcome_of : Result (Unit {0}) ApplyFault → Outcome
 outcome_of result = refused fault_refusal result
 
 -- the second plan is carried out, where the first was; else no call of it is made
-abbrev pub GoesOn : Definitions → Planned → Device → Device → Store (List Stored) → Store (List Stored) → List Call → Outcome → Outcome → Type 0
+abbrev pub GoesOn : Definitions → Planned → Device → Device → Store (List Stored) → Store (List Stored) → List Call
+    → Outcome → Outcome → Type 0
 GoesOn definitions planned disk later sources drained calls (Err refusal) answer =
     (later ≡ disk) × (drained ≡ sources) × (calls ≡ []) × (answer ≡ Err refusal)
 GoesOn definitions planned disk later sources drained calls (Ok done) answer =
     CarriesOut definitions planned disk later sources drained calls answer
 
 -- the plan of the reset is carried out, and then the one behind it: these calls, those of the first plan before those of the second
-pub record CarriesBoth (definitions : Definitions) (renewal : Renewal) (reset : Plan) (disk later : Device) (sources drained : Store (List Stored))
+pub record CarriesBoth (definitions : Definitions) (renewal : Renewal) (reset : Plan) (disk later : Device)
+    (sources drained : Store (List Stored))
     (calls : List Call) (answer : Outcome) : Type 0 where
   pub before : List Call
   pub behind : List Call

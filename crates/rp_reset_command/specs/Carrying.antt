@@ -26,7 +26,8 @@ HasResetImage list renewal disk = IfSome renewal.reset (λ reset. IfSome (histor
     (sector : ℕ) × (empty : Empty) × IsResetFor sector (held h) empty renewal.seen list reset))
 
 -- both can be carried out on such a disk: they are well formed, the first is that of the reset, their sources are those of definitions, the
--- second is for what the first leaves, the disk has as many bytes as were seen, and where sources tell, each pair is planned with the root hash of its source
+-- second is for what the first leaves, the disk has as many bytes as were seen, and where sources tell, each pair is planned
+-- with the root hash of its source
 pub record CanRenew (list : List Definition) (renewal : Renewal) (disk : Device) (sources : Store (List Stored)) : Type 0 where
   pub formed : IsFormed renewal
   pub made : reset_of renewal.seen list ≡ Ok renewal.reset

@@ -50,7 +50,8 @@ abbrev pub ResetsSeen : List Definition → Seen → Result (Option Plan) Refusa
 ResetsSeen list seen answer = (answer ≡ refused (demand_refusal list) (reset_of seen list)) ⊎ (answer ≡ Err memory_refusal)
 
 -- the sources are asked and the goal is planned over what is left, or there is no memory for that
-abbrev pub RenewsLeft : Request → List Definition → Seen → Option Plan → Store (List Stored) → Store (List Stored) → Result Renewal Refusal → Type 0
+abbrev pub RenewsLeft : Request → List Definition → Seen → Option Plan → Store (List Stored) → Store (List Stored)
+    → Result Renewal Refusal → Type 0
 RenewsLeft request list seen reset before now answer =
     ((answer ≡ Err memory_refusal) × (now ≡ before))
     ⊎ ((planned : Result Planned Refusal) × PlansUnless false request list (seen_left seen reset) before now planned
@@ -63,16 +64,20 @@ RenewsBehind request list seen (Err refusal) before now answer = (answer ≡ Err
 RenewsBehind request list seen (Ok reset) before now answer = RenewsLeft request list seen reset before now answer
 
 -- an image that has to be repaired first is refused
-abbrev pub RenewsUnless : Bool → Request → List Definition → Seen → Store (List Stored) → Store (List Stored) → Result Renewal Refusal → Type 0
+abbrev pub RenewsUnless : Bool → Request → List Definition → Seen → Store (List Stored) → Store (List Stored)
+    → Result Renewal Refusal → Type 0
 RenewsUnless true request list seen before now answer = (answer ≡ Err repair_refusal) × (now ≡ before)
 RenewsUnless false request list seen before now answer =
     (reset : Result (Option Plan) Refusal) × ResetsSeen list seen reset × RenewsBehind request list seen reset before now answer
 
-abbrev pub RenewsSeen : Request → List Definition → Result Seen Refusal → Store (List Stored) → Store (List Stored) → Result Renewal Refusal → Type 0
+abbrev pub RenewsSeen : Request → List Definition → Result Seen Refusal → Store (List Stored) → Store (List Stored)
+    → Result Renewal Refusal → Type 0
 RenewsSeen request list (Err refusal) before now answer = (answer ≡ Err refusal) × (now ≡ before)
 RenewsSeen request list (Ok seen) before now answer = RenewsUnless (must_repair request.size seen) request list seen before now answer
 
 -- the image was read, the reset was planned, then the sources were asked, and what is planned by all is the answer
-abbrev pub RenewsImage : Request → List Definition → Device → Device → Store (List Stored) → Store (List Stored) → Result Renewal Refusal → Type 0
+abbrev pub RenewsImage : Request → List Definition → Device → Device → Store (List Stored) → Store (List Stored)
+    → Result Renewal Refusal → Type 0
 RenewsImage request list disk later sources drained answer =
-    (seen : Result Seen Refusal) × ReadsImage request.sector request.empty disk later seen × RenewsSeen request list seen sources drained answer
+    (seen : Result Seen Refusal) × ReadsImage request.sector request.empty disk later seen
+    × RenewsSeen request list seen sources drained answer

@@ -87,7 +87,11 @@ pub(crate) fn planned_text(
 // The steps and writes of the reset, if there is one.
 fn reset_counts(alloc: Global, renewal: &Renewal) -> Result<Counts, Memory>
     requires { IsFormed renewal.now }
-    ensures { IfOk result (λ counts. counts ≡ record { steps = length (reset_steps renewal.now); writes = writes_in (reset_steps renewal.now) }) }
+    ensures { IfOk result (λ counts. counts ≡ record {
+      steps = length (reset_steps renewal.now);
+      writes = writes_in
+          (reset_steps renewal.now);
+    }) }
 {
     match &renewal.reset {
         Some(plan) => counts_of(alloc, plan, &renewal.seen),
@@ -101,7 +105,11 @@ fn reset_counts(alloc: Global, renewal: &Renewal) -> Result<Counts, Memory>
 // Those of a plan.
 fn counts_of(alloc: Global, plan: &Plan, seen: &Seen) -> Result<Counts, Memory>
     requires { IsPlan seen.now plan.now }
-    ensures { IfOk result (λ counts. counts ≡ record { steps = length (steps_for plan.now seen.now); writes = writes_in (steps_for plan.now seen.now) }) }
+    ensures { IfOk result (λ counts. counts ≡ record {
+      steps = length (steps_for plan.now seen.now);
+      writes = writes_in
+          (steps_for plan.now seen.now);
+    }) }
 {
     let steps = steps_of(alloc, plan, seen)?;
     Ok(Counts {

@@ -19,7 +19,8 @@ use Rattle.rp_reset_ends.specs.Ends.{CarriesAllOfBoth, CarriesSomeOfBoth}
 -- what is planned was carried out, or the first of its calls behind a sync: those of both plans, or, where no row is taken out, those of
 -- one
 abbrev pub CarriesSomeBy : Request → List Definition → Device → Device → Store (List Stored) → Renewal → Option Plan → Type 0
-CarriesSomeBy request list disk later sources renewal None = (calls : List Call) × CarriesSome request list disk later sources renewal.planned calls
+CarriesSomeBy request list disk later sources renewal None =
+    (calls : List Call) × CarriesSome request list disk later sources renewal.planned calls
 CarriesSomeBy request list disk later sources renewal (Some reset) =
     (before : List Call) × (behind : List Call)
     × CarriesSomeOfBoth request list disk later sources renewal.seen reset renewal.planned.plan before behind
@@ -29,7 +30,8 @@ CarriesSomeRenewed request list disk later sources renewal = CarriesSomeBy reque
 
 -- all of it was carried out
 abbrev pub CarriesAllBy : Request → List Definition → Device → Device → Store (List Stored) → Renewal → Option Plan → Type 0
-CarriesAllBy request list disk later sources renewal None = (calls : List Call) × CarriesAll request list disk later sources renewal.planned calls
+CarriesAllBy request list disk later sources renewal None =
+    (calls : List Call) × CarriesAll request list disk later sources renewal.planned calls
 CarriesAllBy request list disk later sources renewal (Some reset) =
     (before : List Call) × (behind : List Call)
     × CarriesAllOfBoth request list disk later sources renewal.seen reset renewal.planned.plan before behind

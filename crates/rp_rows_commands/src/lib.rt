@@ -10,6 +10,8 @@ mod findings;
 #[cfg(test)]
 mod help;
 #[cfg(test)]
+mod make;
+#[cfg(test)]
 mod policy;
 #[cfg(test)]
 mod policy_command;

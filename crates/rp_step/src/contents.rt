@@ -27,7 +27,8 @@ pub fn zero<D: Disk>(disk: &mut D, blocks: &mut Blocks, at: u64, len: u64) -> Re
     ensures kept { KeepsCopies blocks.old blocks.new }
     ensures first { D.first disk.new ≡ D.first disk.old }
     ensures ran { Runs (D.calls disk.old) (in_pieces at (replicate len 0)) (D.calls disk.new) result }
-    ensures strays { IfSome (history_told (D.first disk.old) (D.calls disk.old)) (λ h. at + len ≤ length (held h) → D.strays disk.new ≡ D.strays disk.old) }
+    ensures strays { IfSome (history_told (D.first disk.old) (D.calls disk.old)) (λ h. at + len ≤ length (held h)
+        → D.strays disk.new ≡ D.strays disk.old) }
     ensures cause { HasCause (D.faults disk.old) (D.faults disk.new) result }
 {
     let room = blocks.pool.bytes_mut(&blocks.piece);
@@ -50,8 +51,10 @@ pub fn copy<D: Disk, S: Sources>(
     ensures told { S.told sources.new ≡ S.told sources.old }
     ensures ran { (bytes : List ℕ) × IsCopyOf (S.told sources.old) path.now len bytes
         × Runs (D.calls disk.old) (in_pieces at bytes) (D.calls disk.new) result }
-    ensures disk_strays { IfSome (history_told (D.first disk.old) (D.calls disk.old)) (λ h. at + len ≤ length (held h) → D.strays disk.new ≡ D.strays disk.old) }
-    ensures source_strays { IfSome (S.told sources.old) (λ files. passes (content files path.now) len ≡ false → S.strays sources.new ≡ S.strays sources.old) }
+    ensures disk_strays { IfSome (history_told (D.first disk.old) (D.calls disk.old)) (λ h. at + len ≤ length (held h)
+        → D.strays disk.new ≡ D.strays disk.old) }
+    ensures source_strays { IfSome (S.told sources.old) (λ files. passes (content files path.now) len ≡ false
+        → S.strays sources.new ≡ S.strays sources.old) }
     ensures disk_cause { HasDiskCause (D.faults disk.old) (D.faults disk.new) result }
     ensures source_cause { HasSourceCause (S.faults sources.old) (S.faults sources.new) result }
 {
@@ -70,7 +73,8 @@ pub fn tree<D: Disk>(
     ensures kept { KeepsCopies blocks.old blocks.new }
     ensures first { D.first disk.new ≡ D.first disk.old }
     ensures written { WritesTree tree.now (D.first disk.old) (D.calls disk.old) (D.calls disk.new) result }
-    ensures strays { IfSome (history_told (D.first disk.old) (D.calls disk.old)) (λ h. LieIn tree.now (length (held h)) → D.strays disk.new ≡ D.strays disk.old) }
+    ensures strays { IfSome (history_told (D.first disk.old) (D.calls disk.old)) (λ h. LieIn tree.now (length (held h))
+        → D.strays disk.new ≡ D.strays disk.old) }
     ensures cause { HasCause (D.faults disk.old) (D.faults disk.new) result }
 {
     let room = blocks.pool.bytes_mut(&blocks.levels);

@@ -25,7 +25,8 @@ pub fn array<D: Disk>(
     requires goal { CanWrite plan.now }
     ensures first { D.first disk.new ≡ D.first disk.old }
     ensures ran { Runs (D.calls disk.old) (array_call plan.now which ∷ []) (D.calls disk.new) result }
-    ensures strays { IfSome (history_told (D.first disk.old) (D.calls disk.old)) (λ h. 512 * plan.now.target ≤ length (held h) → D.strays disk.new ≡ D.strays disk.old) }
+    ensures strays { IfSome (history_told (D.first disk.old) (D.calls disk.old)) (λ h. 512 * plan.now.target ≤ length (held h)
+        → D.strays disk.new ≡ D.strays disk.old) }
     ensures cause { HasCause (D.faults disk.old) (D.faults disk.new) result }
 {
     write_array(disk, plan, which, copy_for(blocks, plan, which))
@@ -42,7 +43,8 @@ pub fn header<D: Disk>(
     requires goal { CanWrite plan.now }
     ensures first { D.first disk.new ≡ D.first disk.old }
     ensures ran { Runs (D.calls disk.old) (header_call plan.now which ∷ []) (D.calls disk.new) result }
-    ensures strays { IfSome (history_told (D.first disk.old) (D.calls disk.old)) (λ h. 512 * plan.now.target ≤ length (held h) → D.strays disk.new ≡ D.strays disk.old) }
+    ensures strays { IfSome (history_told (D.first disk.old) (D.calls disk.old)) (λ h. 512 * plan.now.target ≤ length (held h)
+        → D.strays disk.new ≡ D.strays disk.old) }
     ensures cause { HasCause (D.faults disk.old) (D.faults disk.new) result }
 {
     write_header(disk, plan, which, copy_for(blocks, plan, which))

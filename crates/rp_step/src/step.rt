@@ -38,8 +38,10 @@ pub fn make_step<D: Disk, S: Sources>(
     ensures told { S.told sources.new ≡ S.told sources.old }
     ensures made { (found : Found) × MakesStep plan.now (outside_of (S.told sources.old) paths.now (D.first disk.old)) step.now found
         (D.calls disk.old) (D.calls disk.new) result }
-    ensures disk_strays { IfSome (history_told (D.first disk.old) (D.calls disk.old)) (λ h. LiesIn plan.now (length (held h)) step.now → D.strays disk.new ≡ D.strays disk.old) }
-    ensures source_strays { IfSome (S.told sources.old) (λ files. HasFile files paths.now step.now → S.strays sources.new ≡ S.strays sources.old) }
+    ensures disk_strays { IfSome (history_told (D.first disk.old) (D.calls disk.old))
+        (λ h. LiesIn plan.now (length (held h)) step.now → D.strays disk.new ≡ D.strays disk.old) }
+    ensures source_strays { IfSome (S.told sources.old) (λ files. HasFile files paths.now step.now
+        → S.strays sources.new ≡ S.strays sources.old) }
     ensures disk_cause { HasDiskCause (D.faults disk.old) (D.faults disk.new) result }
     ensures source_cause { HasSourceCause (S.faults sources.old) (S.faults sources.new) result }
 {
@@ -82,7 +84,8 @@ fn make_fixed<D: Disk>(
     ensures stocked { IsStocked plan.now blocks.new }
     ensures first { D.first disk.new ≡ D.first disk.old }
     ensures ran { Runs (D.calls disk.old) (calls_with plan.now nothing_found step.now) (D.calls disk.new) result }
-    ensures strays { IfSome (history_told (D.first disk.old) (D.calls disk.old)) (λ h. LiesIn plan.now (length (held h)) step.now → D.strays disk.new ≡ D.strays disk.old) }
+    ensures strays { IfSome (history_told (D.first disk.old) (D.calls disk.old)) (λ h. LiesIn plan.now (length (held h)) step.now
+        → D.strays disk.new ≡ D.strays disk.old) }
     ensures cause { HasCause (D.faults disk.old) (D.faults disk.new) result }
 {
     match *step {

@@ -29,10 +29,13 @@ pub fn make_steps<D: Disk, S: Sources>(
     ensures stocked { IsStocked plan.now blocks.new }
     ensures first { D.first disk.new ≡ D.first disk.old }
     ensures told { S.told sources.new ≡ S.told sources.old }
-    ensures made { (founds : List Found) × MakesSteps plan.now (outside_of (S.told sources.old) paths.now (D.first disk.old)) steps.now founds
+    ensures made { (founds : List Found) × MakesSteps plan.now
+        (outside_of (S.told sources.old) paths.now (D.first disk.old)) steps.now founds
         (D.calls disk.old) (D.calls disk.new) result }
-    ensures disk_strays { IfSome (history_told (D.first disk.old) (D.calls disk.old)) (λ h. AllLieIn plan.now (length (held h)) steps.now → D.strays disk.new ≡ D.strays disk.old) }
-    ensures source_strays { IfSome (S.told sources.old) (λ files. All (HasFile files paths.now) steps.now → S.strays sources.new ≡ S.strays sources.old) }
+    ensures disk_strays { IfSome (history_told (D.first disk.old) (D.calls disk.old))
+        (λ h. AllLieIn plan.now (length (held h)) steps.now → D.strays disk.new ≡ D.strays disk.old) }
+    ensures source_strays { IfSome (S.told sources.old) (λ files. All (HasFile files paths.now) steps.now
+        → S.strays sources.new ≡ S.strays sources.old) }
     ensures disk_cause { HasDiskCause (D.faults disk.old) (D.faults disk.new) result }
     ensures source_cause { HasSourceCause (S.faults sources.old) (S.faults sources.new) result }
 {

@@ -48,7 +48,8 @@ contents_as plan sources image noted Plain =
     source_bytes sources noted ++ plain_rest image (from_byte noted.0 + len) (byte_count noted.0 - len)
 contents_as plan sources image noted (Data partner root) = payload sources noted
 contents_as plan sources image noted (Hash partner blocks salt uuid root) =
-    resized (superblock uuid blocks salt ++ concat (tree_over plan sources (byte_of_slot plan.goal.rows partner) blocks salt)) (byte_count noted.0)
+    resized (superblock uuid blocks salt ++ concat (tree_over plan sources (byte_of_slot plan.goal.rows partner) blocks salt))
+    (byte_count noted.0)
 
 abbrev pub contents : Plan → Sources → List ℕ → Noted → List ℕ
 contents plan sources image noted = contents_as plan sources image noted noted.1.role

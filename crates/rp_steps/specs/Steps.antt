@@ -132,7 +132,8 @@ mbr_phases plan seen = if writes_mbr plan seen seen.mbr then (Mbr ∷ []) ∷ []
 
 -- all phases: growth, contents, copies, the protective MBR
 unfoldable pub phases : Plan → Seen → List (List Step)
-phases plan seen = growth plan seen ++ phase_of (contents_steps plan) ++ flat_map copy_phases (written_copies plan seen) ++ mbr_phases plan seen
+phases plan seen = growth plan seen ++ phase_of (contents_steps plan) ++ flat_map copy_phases (written_copies plan seen)
+    ++ mbr_phases plan seen
 
 -- phases, each with a sync behind it
 abbrev pub synced : List (List Step) → List Step

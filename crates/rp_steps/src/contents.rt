@@ -68,7 +68,8 @@ fn push_rest(steps: &mut List<Step>, role: Role, at: u64, len: u64) -> Result<()
 #[tactic(auto, unfolding(crate::specs::Steps::payload_steps))]
 fn push_payload(steps: &mut List<Step>, row: &Row, note: &Note) -> Result<(), Memory>
     requires { IsPlanned (row.now, note.now) }
-    ensures { OnOk result (steps.new ≡ steps.old ++ (if is_new_of note.now.change then payload_steps (row.now, note.now) note.now.role else [])) }
+    ensures { OnOk result (steps.new ≡ steps.old ++ (if is_new_of note.now.change
+        then payload_steps (row.now, note.now) note.now.role else [])) }
 {
     if !is_new(note.change) {
         return Ok(());
@@ -109,7 +110,8 @@ fn byte_of_slot(rows: &[Row], slot: u16) -> u64
 fn push_tree(steps: &mut List<Step>, plan: &Plan, row: &Row, note: &Note) -> Result<(), Memory>
     requires planned { IsPlanned (row.now, note.now) }
     requires starts { All (λ row. row.start < 2 ^ 55) plan.now.goal.rows }
-    ensures { OnOk result (steps.new ≡ steps.old ++ (if is_new_of note.now.change then tree_steps plan.now.goal.rows row.now note.now.role else [])) }
+    ensures { OnOk result (steps.new ≡ steps.old ++ (if is_new_of note.now.change
+        then tree_steps plan.now.goal.rows row.now note.now.role else [])) }
 {
     if !is_new(note.change) {
         return Ok(());
@@ -156,7 +158,8 @@ fn push_trees(steps: &mut List<Step>, plan: &Plan) -> Result<(), Memory>
     requires planned { All IsPlanned (noted_of plan.now) }
     requires notes { length plan.now.notes ≡ length plan.now.goal.rows }
     requires starts { All (λ row. row.start < 2 ^ 55) plan.now.goal.rows }
-    ensures { OnOk result (steps.new ≡ steps.old ++ flat_map (λ noted. tree_steps plan.now.goal.rows noted.0 noted.1.role) (new_rows plan.now)) }
+    ensures { OnOk result (steps.new ≡ steps.old ++ flat_map
+        (λ noted. tree_steps plan.now.goal.rows noted.0 noted.1.role) (new_rows plan.now)) }
 {
     let notes = plan.notes.as_slice();
     for (place, row) in plan.goal.rows.as_slice().iter().enumerate() {

@@ -71,7 +71,8 @@ fn push_unless_same(
     seen: &Seen,
     which: Which,
 ) -> Result<(), Memory>
-    ensures { OnOk result (steps.new ≡ steps.old ++ synced (flat_map copy_phases (filter (λ each. both || not (is_same_of seen.now each)) (which ∷ [])))) }
+    ensures { OnOk result (steps.new ≡ steps.old ++ synced
+        (flat_map copy_phases (filter (λ each. both || not (is_same_of seen.now each)) (which ∷ [])))) }
 {
     if both || !is_same(seen, which) {
         return push_copy(steps, which);

@@ -27,7 +27,8 @@ pub fn calls_are_of_the_plan()
 /// The writes into new rows, all done on the image in its new length, give each new row its contents: what was copied, what
 /// was wiped, what was kept, and the tree with its superblock.
 pub fn contents_are_filled()
-    ensures { (seen : Seen) (plan : Plan) (sources : Sources) (old : List ℕ) → IsWellFormed seen plan → NotesFit plan → length old ≡ 512 * seen.sectors
+    ensures { (seen : Seen) (plan : Plan) (sources : Sources) (old : List ℕ) → IsWellFormed seen plan → NotesFit plan
+        → length old ≡ 512 * seen.sectors
         → Fills old plan (contents plan sources (grown old plan)) (contents_calls plan sources) }
 {}
 

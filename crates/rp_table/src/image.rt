@@ -33,8 +33,10 @@ pub fn read<D: Disk>(alloc: Global, disk: &mut D, empty: Empty) -> Result<Seen, 
     ensures first { D.first disk.new ≡ D.first disk.old }
     ensures calls { D.calls disk.new ≡ D.calls disk.old }
     ensures strays { IfSome (D.first disk.old) (λ _. D.strays disk.new ≡ D.strays disk.old) }
-    ensures answer { IfSome (history_told (D.first disk.old) (D.calls disk.old)) (λ h. (result ≡ Err TableFault.Disk) ⊎ Gives TableFault.Memory (accepted 512 (held h) empty) result) }
-    ensures len { IfSome (history_told (D.first disk.old) (D.calls disk.old)) (λ h. IfOk result (λ seen. length (held h) ≡ 512 * seen.sectors)) }
+    ensures answer { IfSome (history_told (D.first disk.old) (D.calls disk.old))
+        (λ h. (result ≡ Err TableFault.Disk) ⊎ Gives TableFault.Memory (accepted 512 (held h) empty) result) }
+    ensures len { IfSome (history_told (D.first disk.old) (D.calls disk.old))
+        (λ h. IfOk result (λ seen. length (held h) ≡ 512 * seen.sectors)) }
     ensures fault { result ≡ Err TableFault.Disk → Rose (D.faults disk.old) (D.faults disk.new) }
     ensures kept { (result ≡ Err TableFault.Disk) ⊎ (D.faults disk.new ≡ D.faults disk.old) }
     ensures seen { IfOk result (λ seen. IsSeen 512 seen) }
@@ -55,8 +57,10 @@ pub fn read_at<D: Disk>(
     ensures first { D.first disk.new ≡ D.first disk.old }
     ensures calls { D.calls disk.new ≡ D.calls disk.old }
     ensures strays { IfSome (D.first disk.old) (λ _. D.strays disk.new ≡ D.strays disk.old) }
-    ensures answer { IfSome (history_told (D.first disk.old) (D.calls disk.old)) (λ h. (result ≡ Err TableFault.Disk) ⊎ Gives TableFault.Memory (accepted sector (held h) empty) result) }
-    ensures len { IfSome (history_told (D.first disk.old) (D.calls disk.old)) (λ h. IfOk result (λ seen. length (held h) ≡ 512 * seen.sectors)) }
+    ensures answer { IfSome (history_told (D.first disk.old) (D.calls disk.old))
+        (λ h. (result ≡ Err TableFault.Disk) ⊎ Gives TableFault.Memory (accepted sector (held h) empty) result) }
+    ensures len { IfSome (history_told (D.first disk.old) (D.calls disk.old))
+        (λ h. IfOk result (λ seen. length (held h) ≡ 512 * seen.sectors)) }
     ensures fault { result ≡ Err TableFault.Disk → Rose (D.faults disk.old) (D.faults disk.new) }
     ensures kept { (result ≡ Err TableFault.Disk) ⊎ (D.faults disk.new ≡ D.faults disk.old) }
     ensures seen { IfOk result (λ seen. IsSeen sector seen) }
@@ -94,8 +98,10 @@ fn read_pieces<D: Disk>(
     requires { IsDisk sector sectors }
     ensures first { D.first disk.new ≡ D.first disk.old }
     ensures calls { D.calls disk.new ≡ D.calls disk.old }
-    ensures strays { IfSome (history_told (D.first disk.old) (D.calls disk.old)) (λ h. length (held h) ≡ sector * sectors → D.strays disk.new ≡ D.strays disk.old) }
-    ensures pieces { IfSome (history_told (D.first disk.old) (D.calls disk.old)) (λ h. IfOk result (λ pieces. length (held h) ≡ sector * sectors → ArePieces (held h) pieces)) }
+    ensures strays { IfSome (history_told (D.first disk.old) (D.calls disk.old)) (λ h. length (held h) ≡ sector * sectors
+        → D.strays disk.new ≡ D.strays disk.old) }
+    ensures pieces { IfSome (history_told (D.first disk.old) (D.calls disk.old))
+        (λ h. IfOk result (λ pieces. length (held h) ≡ sector * sectors → ArePieces (held h) pieces)) }
     ensures sized { IfOk result (λ pieces. AreSized pieces × (pieces.sector ≡ sector) × (pieces.sectors ≡ sectors)) }
     ensures fault { result ≡ Err TableFault.Disk → Rose (D.faults disk.old) (D.faults disk.new) }
     ensures either { IfErr result (λ fault. (fault ≡ TableFault.Disk) ⊎ (fault ≡ TableFault.Memory)) }
@@ -124,8 +130,10 @@ fn read_place<D: Disk>(
     requires { IsDisk sector sectors }
     ensures first { D.first disk.new ≡ D.first disk.old }
     ensures calls { D.calls disk.new ≡ D.calls disk.old }
-    ensures strays { IfSome (history_told (D.first disk.old) (D.calls disk.old)) (λ h. length (held h) ≡ sector * sectors → D.strays disk.new ≡ D.strays disk.old) }
-    ensures place { IfSome (history_told (D.first disk.old) (D.calls disk.old)) (λ h. IfOk result (λ place. length (held h) ≡ sector * sectors → IsPlaceOf sector (held h) which place)) }
+    ensures strays { IfSome (history_told (D.first disk.old) (D.calls disk.old)) (λ h. length (held h) ≡ sector * sectors
+        → D.strays disk.new ≡ D.strays disk.old) }
+    ensures place { IfSome (history_told (D.first disk.old) (D.calls disk.old))
+        (λ h. IfOk result (λ place. length (held h) ≡ sector * sectors → IsPlaceOf sector (held h) which place)) }
     ensures sized { IfOk result (λ place. IsSized sector sectors place) }
     ensures fault { result ≡ Err TableFault.Disk → Rose (D.faults disk.old) (D.faults disk.new) }
     ensures either { IfErr result (λ fault. (fault ≡ TableFault.Disk) ⊎ (fault ≡ TableFault.Memory)) }
@@ -165,8 +173,10 @@ fn read_range<D: Disk>(
 ) -> Result<List<u8>, TableFault>
     ensures first { D.first disk.new ≡ D.first disk.old }
     ensures calls { D.calls disk.new ≡ D.calls disk.old }
-    ensures strays { IfSome (history_told (D.first disk.old) (D.calls disk.old)) (λ h. at + count ≤ length (held h) → D.strays disk.new ≡ D.strays disk.old) }
-    ensures bytes { IfSome (history_told (D.first disk.old) (D.calls disk.old)) (λ h. IfOk result (λ bytes. bytes ≡ bytes_at (held h) at count)) }
+    ensures strays { IfSome (history_told (D.first disk.old) (D.calls disk.old)) (λ h. at + count ≤ length (held h)
+        → D.strays disk.new ≡ D.strays disk.old) }
+    ensures bytes { IfSome (history_told (D.first disk.old) (D.calls disk.old))
+        (λ h. IfOk result (λ bytes. bytes ≡ bytes_at (held h) at count)) }
     ensures len { IfOk result (λ bytes. length bytes ≡ count) }
     ensures fault { result ≡ Err TableFault.Disk → Rose (D.faults disk.old) (D.faults disk.new) }
     ensures either { IfErr result (λ fault. (fault ≡ TableFault.Disk) ⊎ (fault ≡ TableFault.Memory)) }

@@ -130,7 +130,8 @@ fn without_table(
 ) -> Result<Seen, TableFault>
     requires { AreSized pieces.now }
     ensures answer { (image : List ℕ) → ArePieces image pieces.now
-        → wide ≡ wider_copy pieces.now.sector image Origin.Neither (blank pieces.now.sector pieces.now.sectors) → result ≡ accepted_blank pieces.now.sector image empty }
+        → wide ≡ wider_copy pieces.now.sector image Origin.Neither (blank pieces.now.sector pieces.now.sectors)
+        → result ≡ accepted_blank pieces.now.sector image empty }
     ensures no_call { result ≢ Err TableFault.Disk }
     ensures seen { IfOk result (λ seen. IsSeen pieces.now.sector seen) }
     ensures sectors { IfOk result (λ seen. seen.sectors ≡ units_of pieces.now.sector * pieces.now.sectors) }

@@ -22,8 +22,10 @@ pub struct Said {
 /// What a place says, or the fault for which it refuses the image.
 pub fn said_at(alloc: Global, pieces: &Pieces, which: Which) -> Result<Said, TableFault>
     requires { AreSized pieces.now }
-    ensures table { (image : List ℕ) → ArePieces image pieces.now → IfOk result (λ said. TellsTable (told_at pieces.now.sector image which) said.table) }
-    ensures broken { (image : List ℕ) → ArePieces image pieces.now → IfOk result (λ said. said.broken ≡ broken_at pieces.now.sector image which) }
+    ensures table { (image : List ℕ) → ArePieces image pieces.now
+        → IfOk result (λ said. TellsTable (told_at pieces.now.sector image which) said.table) }
+    ensures broken { (image : List ℕ) → ArePieces image pieces.now
+        → IfOk result (λ said. said.broken ≡ broken_at pieces.now.sector image which) }
     ensures refuses { (image : List ℕ) → ArePieces image pieces.now
         → IfErr result (λ fault. (told_at pieces.now.sector image which ≡ refuses fault) ⊎ (fault ≡ TableFault.Memory)) }
     ensures no_call { result ≢ Err TableFault.Disk }

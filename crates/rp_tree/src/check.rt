@@ -46,8 +46,10 @@ pub fn check_root<D: Disk>(
     requires room { 24576 ≤ length room.old }
     ensures first { D.first disk.new ≡ D.first disk.old }
     ensures calls { D.calls disk.new ≡ D.calls disk.old }
-    ensures strays { IfSome (history_told (D.first disk.old) (D.calls disk.old)) (λ h. ends_of payload.now hash.now ≤ length (held h) → D.strays disk.new ≡ D.strays disk.old) }
-    ensures answer { IfSome (history_told (D.first disk.old) (D.calls disk.old)) (λ h. IfOk result (λ right. right ≡ has_root (held h) payload.now hash.now)) }
+    ensures strays { IfSome (history_told (D.first disk.old) (D.calls disk.old)) (λ h. ends_of payload.now hash.now ≤ length (held h)
+        → D.strays disk.new ≡ D.strays disk.old) }
+    ensures answer { IfSome (history_told (D.first disk.old) (D.calls disk.old))
+        (λ h. IfOk result (λ right. right ≡ has_root (held h) payload.now hash.now)) }
     ensures cause { HasCause (D.faults disk.old) (D.faults disk.new) result }
 {
     let block = &mut room[..BLOCK];
@@ -74,8 +76,10 @@ pub fn check_all<D: Disk>(
     requires room { 24576 ≤ length room.old }
     ensures first { D.first disk.new ≡ D.first disk.old }
     ensures calls { D.calls disk.new ≡ D.calls disk.old }
-    ensures strays { IfSome (history_told (D.first disk.old) (D.calls disk.old)) (λ h. ends_of payload.now hash.now ≤ length (held h) → D.strays disk.new ≡ D.strays disk.old) }
-    ensures answer { IfSome (history_told (D.first disk.old) (D.calls disk.old)) (λ h. IfOk result (λ bad. bad ≡ first_bad (held h) payload.now hash.now)) }
+    ensures strays { IfSome (history_told (D.first disk.old) (D.calls disk.old)) (λ h. ends_of payload.now hash.now ≤ length (held h)
+        → D.strays disk.new ≡ D.strays disk.old) }
+    ensures answer { IfSome (history_told (D.first disk.old) (D.calls disk.old))
+        (λ h. IfOk result (λ bad. bad ≡ first_bad (held h) payload.now hash.now)) }
     ensures cause { HasCause (D.faults disk.old) (D.faults disk.new) result }
 {
     let (block, _) = room.split_at_mut(BLOCK);
@@ -95,7 +99,8 @@ fn read_tree<D: Disk>(
     requires hash { 8 ≤ hash.now.size }
     requires end { hash.now.start + hash.now.size ≤ 2 ^ 35 }
     requires block { length block.old ≡ 4096 }
-    ensures reads { Reads (end_of hash.now) (D.first disk.old) (D.first disk.new) (D.calls disk.old) (D.calls disk.new) (D.strays disk.old) (D.strays disk.new) (D.faults disk.old) (D.faults disk.new) result }
+    ensures reads { Reads (end_of hash.now) (D.first disk.old) (D.first disk.new) (D.calls disk.old) (D.calls disk.new)
+        (D.strays disk.old) (D.strays disk.new) (D.faults disk.old) (D.faults disk.new) result }
     ensures tree { IfSome (history_told (D.first disk.old) (D.calls disk.old)) (λ h. IfOk result (λ found.
         MatchOption found (superblock_of (held h) payload.now hash.now ≡ None) (IsTreeOf (held h) payload.now hash.now))) }
     ensures fits { IfOk result (λ found. IfSome found (λ tree. FitIn tree.said.blocks payload.now hash.now)) }
@@ -108,7 +113,8 @@ fn read_tree<D: Disk>(
 fn tree_in(block: &[u8], payload: &Row, hash: &Row) -> Option<Tree>
     requires { length block.now ≡ 4096 }
     ensures tree { MatchOption result (superblock_in block.now payload.now hash.now ≡ None)
-        (λ tree. (superblock_in block.now payload.now hash.now ≡ Some tree.said) × (salt_kept tree ≡ salt_in block.now tree.said.salt_size)) }
+        (λ tree. (superblock_in block.now payload.now hash.now ≡ Some tree.said)
+        × (salt_kept tree ≡ salt_in block.now tree.said.salt_size)) }
     ensures fits { IfSome result (λ tree. FitIn tree.said.blocks payload.now hash.now) }
 {
     let said = read_superblock(block, payload, hash)?;
@@ -141,8 +147,10 @@ fn is_rooted<D: Disk>(
     requires payload_end { payload.now.start + payload.now.size ≤ 2 ^ 35 }
     requires hash_end { hash.now.start + hash.now.size ≤ 2 ^ 35 }
     requires block { length block.old ≡ 4096 }
-    ensures reads { Reads (ends_of payload.now hash.now) (D.first disk.old) (D.first disk.new) (D.calls disk.old) (D.calls disk.new) (D.strays disk.old) (D.strays disk.new) (D.faults disk.old) (D.faults disk.new) result }
-    ensures block { IfSome (history_told (D.first disk.old) (D.calls disk.old)) (λ h. OnOk result (block.new ≡ top_of (held h) payload.now hash.now tree.now.said.blocks)) }
+    ensures reads { Reads (ends_of payload.now hash.now) (D.first disk.old) (D.first disk.new) (D.calls disk.old) (D.calls disk.new)
+        (D.strays disk.old) (D.strays disk.new) (D.faults disk.old) (D.faults disk.new) result }
+    ensures block { IfSome (history_told (D.first disk.old) (D.calls disk.old))
+        (λ h. OnOk result (block.new ≡ top_of (held h) payload.now hash.now tree.now.said.blocks)) }
     ensures root { IfSome (history_told (D.first disk.old) (D.calls disk.old)) (λ h. IsTreeOf (held h) payload.now hash.now tree.now
         → IfOk result (λ right. right ≡ is_rooted (held h) payload.now hash.now tree.now.said)) }
 {
@@ -162,8 +170,10 @@ fn read_top<D: Disk>(
     requires payload_end { payload.now.start + payload.now.size ≤ 2 ^ 35 }
     requires hash_end { hash.now.start + hash.now.size ≤ 2 ^ 35 }
     requires block { length block.old ≡ 4096 }
-    ensures reads { Reads (ends_of payload.now hash.now) (D.first disk.old) (D.first disk.new) (D.calls disk.old) (D.calls disk.new) (D.strays disk.old) (D.strays disk.new) (D.faults disk.old) (D.faults disk.new) result }
-    ensures block { IfSome (history_told (D.first disk.old) (D.calls disk.old)) (λ h. OnOk result (block.new ≡ top_of (held h) payload.now hash.now blocks)) }
+    ensures reads { Reads (ends_of payload.now hash.now) (D.first disk.old) (D.first disk.new) (D.calls disk.old) (D.calls disk.new)
+        (D.strays disk.old) (D.strays disk.new) (D.faults disk.old) (D.faults disk.new) result }
+    ensures block { IfSome (history_told (D.first disk.old) (D.calls disk.old))
+        (λ h. OnOk result (block.new ≡ top_of (held h) payload.now hash.now blocks)) }
 {
     if blocks == 1 {
         read_blocks(disk, payload, 0, block)
@@ -196,7 +206,8 @@ fn check_tree<D: Disk>(
     requires payload_end { payload.now.start + payload.now.size ≤ 2 ^ 35 }
     requires hash_end { hash.now.start + hash.now.size ≤ 2 ^ 35 }
     requires room { 24576 ≤ length room.old }
-    ensures reads { Reads (ends_of payload.now hash.now) (D.first disk.old) (D.first disk.new) (D.calls disk.old) (D.calls disk.new) (D.strays disk.old) (D.strays disk.new) (D.faults disk.old) (D.faults disk.new) result }
+    ensures reads { Reads (ends_of payload.now hash.now) (D.first disk.old) (D.first disk.new) (D.calls disk.old) (D.calls disk.new)
+        (D.strays disk.old) (D.strays disk.new) (D.faults disk.old) (D.faults disk.new) result }
     ensures bad { IfSome (history_told (D.first disk.old) (D.calls disk.old)) (λ h. IsTreeOf (held h) payload.now hash.now tree.now
         → IfOk result (λ bad. bad ≡ bad_in (held h) payload.now hash.now tree.now.said)) }
 {
@@ -237,8 +248,10 @@ fn top_stands<D: Disk>(
     requires count { 1 ≤ count }
     requires low { count ≤ 5 }
     requires standing { length standing.old ≡ 4096 * count }
-    ensures reads { Reads (ends_of payload.now hash.now) (D.first disk.old) (D.first disk.new) (D.calls disk.old) (D.calls disk.new) (D.strays disk.old) (D.strays disk.new) (D.faults disk.old) (D.faults disk.new) result }
-    ensures block { IfSome (history_told (D.first disk.old) (D.calls disk.old)) (λ h. OnOk result (drop (4096 * (count - 1)) standing.new ≡ block_of (held h) hash.now 1)) }
+    ensures reads { Reads (ends_of payload.now hash.now) (D.first disk.old) (D.first disk.new) (D.calls disk.old) (D.calls disk.new)
+        (D.strays disk.old) (D.strays disk.new) (D.faults disk.old) (D.faults disk.new) result }
+    ensures block { IfSome (history_told (D.first disk.old) (D.calls disk.old))
+        (λ h. OnOk result (drop (4096 * (count - 1)) standing.new ≡ block_of (held h) hash.now 1)) }
     ensures root { IfSome (history_told (D.first disk.old) (D.calls disk.old)) (λ h. IsTreeOf (held h) payload.now hash.now tree.now
         → IfOk result (λ right. right ≡ is_rooted (held h) payload.now hash.now tree.now.said)) }
 {
@@ -264,10 +277,12 @@ fn check_blocks<D: Disk>(
     requires standing { length standing.old ≡ 4096 * count }
     requires buffer { 4096 ≤ length buffer.old }
     requires shape { IsShape hash.now count tree.now.said.blocks (length standing.old) 5 }
-    ensures reads { Reads (ends_of payload.now hash.now) (D.first disk.old) (D.first disk.new) (D.calls disk.old) (D.calls disk.new) (D.strays disk.old) (D.strays disk.new) (D.faults disk.old) (D.faults disk.new) result }
+    ensures reads { Reads (ends_of payload.now hash.now) (D.first disk.old) (D.first disk.new) (D.calls disk.old) (D.calls disk.new)
+        (D.strays disk.old) (D.strays disk.new) (D.faults disk.old) (D.faults disk.new) result }
     ensures bad { IfSome (history_told (D.first disk.old) (D.calls disk.old)) (λ h. IsTreeOf (held h) payload.now hash.now tree.now
         → drop (4096 * (count - 1)) standing.old ≡ block_of (held h) hash.now 1
-        → IfOk result (λ bad. bad ≡ wrong_block (held h) (salt_of (held h) hash.now tree.now.said) payload.now hash.now tree.now.said.blocks)) }
+        → IfOk result (λ bad. bad ≡ wrong_block (held h)
+        (salt_of (held h) hash.now tree.now.said) payload.now hash.now tree.now.said.blocks)) }
 {
     let blocks = tree.said.blocks;
     let salt = tree.salt();

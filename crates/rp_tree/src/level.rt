@@ -31,7 +31,8 @@ pub(crate) fn next_block<D: Disk>(
     requires salt { length salt.now ≤ 256 }
     requires shape { IsShape hash.now levels total (length room.old) (length notes.old) }
     requires index { index < runs_of total }
-    ensures reads { Reads (end_of hash.now) (D.first disk.old) (D.first disk.new) (D.calls disk.old) (D.calls disk.new) (D.strays disk.old) (D.strays disk.new) (D.faults disk.old) (D.faults disk.new) result }
+    ensures reads { Reads (end_of hash.now) (D.first disk.old) (D.first disk.new) (D.calls disk.old) (D.calls disk.new)
+        (D.strays disk.old) (D.strays disk.new) (D.faults disk.old) (D.faults disk.new) result }
     ensures stands { IfSome (history_told (D.first disk.old) (D.calls disk.old)) (λ h.
         Stands (held h) salt.now hash.now levels total index room.old notes.old
         → OnOk result (Stands (held h) salt.now hash.now levels total (index + 1) room.new notes.new)) }
@@ -72,7 +73,8 @@ fn own_block<D: Disk>(
     requires shape { IsShape hash.now levels total (length room.old) (length notes.old) }
     requires more { 2 ≤ levels }
     requires index { index < runs_of total }
-    ensures reads { Reads (end_of hash.now) (D.first disk.old) (D.first disk.new) (D.calls disk.old) (D.calls disk.new) (D.strays disk.old) (D.strays disk.new) (D.faults disk.old) (D.faults disk.new) result }
+    ensures reads { Reads (end_of hash.now) (D.first disk.old) (D.first disk.new) (D.calls disk.old) (D.calls disk.new)
+        (D.strays disk.old) (D.strays disk.new) (D.faults disk.old) (D.faults disk.new) result }
     ensures stands { IfSome (history_told (D.first disk.old) (D.calls disk.old)) (λ h.
         IsNoted (held h) salt.now hash.now levels total index notes.old
         → Stands (held h) salt.now hash.now (levels - 1) (runs_of total) (index / 128 + 1) (drop 4096 room.old) (drop 1 notes.old)
@@ -100,7 +102,8 @@ fn note(notes: &mut [Option<u64>], number: u64, right: bool)
 /// The first hash block that was noted of so many levels, the topmost level first, its one block left out.
 pub(crate) fn first_noted(levels: u32, notes: &[Option<u64>]) -> Option<u64>
     requires { levels ≤ length notes.now }
-    ensures { (image salt : List ℕ) (hash : ARow) (total : ℕ) (room : List ℕ) → Stands image salt hash levels total (runs_of total) room notes.now
+    ensures { (image salt : List ℕ) (hash : ARow) (total : ℕ) (room : List ℕ)
+        → Stands image salt hash levels total (runs_of total) room notes.now
         → result ≡ wrong_hash image salt hash levels total }
 {
     if levels <= 1 {

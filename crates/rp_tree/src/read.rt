@@ -19,8 +19,10 @@ pub(crate) fn read_blocks<D: Disk>(
 ) -> Result<(), Failed>
     requires row { row.now.start + row.now.size ≤ 2 ^ 35 }
     requires blocks { 4096 * number + length buf.old ≤ 512 * row.now.size }
-    ensures reads { Reads (end_of row.now) (D.first disk.old) (D.first disk.new) (D.calls disk.old) (D.calls disk.new) (D.strays disk.old) (D.strays disk.new) (D.faults disk.old) (D.faults disk.new) result }
-    ensures bytes { IfSome (history_told (D.first disk.old) (D.calls disk.old)) (λ h. OnOk result (buf.new ≡ bytes_at (held h) (512 * row.now.start + 4096 * number) (length buf.old))) }
+    ensures reads { Reads (end_of row.now) (D.first disk.old) (D.first disk.new) (D.calls disk.old) (D.calls disk.new)
+        (D.strays disk.old) (D.strays disk.new) (D.faults disk.old) (D.faults disk.new) result }
+    ensures bytes { IfSome (history_told (D.first disk.old) (D.calls disk.old))
+        (λ h. OnOk result (buf.new ≡ bytes_at (held h) (512 * row.now.start + 4096 * number) (length buf.old))) }
 {
     disk.read(SECTOR * row.start + BLOCK as u64 * number, buf)
 }

@@ -28,7 +28,8 @@ pub(crate) fn first_wrong(salt: &[u8], blocks: &[u8], count: usize, digests: &[u
     requires blocks { length blocks.now ≡ 4096 * count }
     requires digests { 32 * count ≤ length digests.now }
     ensures inside { IfSome result (λ k. k < count) }
-    ensures found { result ≡ find (λ k. not (bytes_eq (digest salt.now (bytes_at blocks.now (4096 * k) 4096)) (bytes_at digests.now (32 * k) 32))) (range_with_len 0 count) }
+    ensures found { result ≡ find (λ k. not (bytes_eq (digest salt.now (bytes_at blocks.now (4096 * k) 4096))
+        (bytes_at digests.now (32 * k) 32))) (range_with_len 0 count) }
 {
     let mut own = [[0; DIGEST]; FAN as usize];
     let own = &mut own[..count];
@@ -40,7 +41,8 @@ pub(crate) fn first_wrong(salt: &[u8], blocks: &[u8], count: usize, digests: &[u
 fn first_other(own: &[[u8; DIGEST]], digests: &[u8]) -> Option<usize>
     requires { 32 * length own.now ≤ length digests.now }
     ensures inside { IfSome result (λ k. k < length own.now) }
-    ensures found { result ≡ find (λ k. not (bytes_eq (slice_index_or own.now k []) (bytes_at digests.now (32 * k) 32))) (range_with_len 0 (length own.now)) }
+    ensures found { result ≡ find (λ k. not (bytes_eq (slice_index_or own.now k []) (bytes_at digests.now (32 * k) 32)))
+        (range_with_len 0 (length own.now)) }
 {
     for k in 0..own.len() {
         if !is_stored(&own[k], digests, DIGEST * k) {

@@ -36,7 +36,8 @@ pub(crate) fn data_under<D: Disk>(
     requires index { 128 * index < blocks }
     requires digests { length digests.now ≡ 4096 }
     requires buffer { 4096 ≤ length buffer.old }
-    ensures reads { Reads (end_of payload.now) (D.first disk.old) (D.first disk.new) (D.calls disk.old) (D.calls disk.new) (D.strays disk.old) (D.strays disk.new) (D.faults disk.old) (D.faults disk.new) result }
+    ensures reads { Reads (end_of payload.now) (D.first disk.old) (D.first disk.new) (D.calls disk.old) (D.calls disk.new)
+        (D.strays disk.old) (D.strays disk.new) (D.faults disk.old) (D.faults disk.new) result }
     ensures found { IfSome (history_told (D.first disk.old) (D.calls disk.old)) (λ h. (hash : ARow) (begin : ℕ)
         → digests.now ≡ block_of (held h) hash (begin + index)
         → found ≡ first_wrong_of (held h) salt.now payload.now 0 (128 * index) hash begin
@@ -78,10 +79,13 @@ fn wrong_in<D: Disk>(
     requires count { count ≤ 128 }
     requires digests { length digests.now ≡ 4096 }
     requires buffer { 4096 ≤ length buffer.old }
-    ensures reads { Reads (end_of payload.now) (D.first disk.old) (D.first disk.new) (D.calls disk.old) (D.calls disk.new) (D.strays disk.old) (D.strays disk.new) (D.faults disk.old) (D.faults disk.new) result }
+    ensures reads { Reads (end_of payload.now) (D.first disk.old) (D.first disk.new) (D.calls disk.old) (D.calls disk.new)
+        (D.strays disk.old) (D.strays disk.new) (D.faults disk.old) (D.faults disk.new) result }
     ensures inside { IfOk result (λ found. IfSome found (λ k. k < count)) }
     ensures found { IfSome (history_told (D.first disk.old) (D.calls disk.old)) (λ h.
-        IfOk result (λ found. found ≡ find (λ k. not (bytes_eq (digest salt.now (block_of (held h) payload.now (first + k))) (bytes_at digests.now (32 * k) 32))) (range_with_len 0 count))) }
+        IfOk result (λ found. found ≡ find (λ k. not
+        (bytes_eq (digest salt.now (block_of (held h) payload.now (first + k))) (bytes_at digests.now (32 * k) 32)))
+        (range_with_len 0 count))) }
 {
     let most = whole_lanes(buffer.len() / BLOCK);
     let mut done = 0;

@@ -39,4 +39,5 @@ size_of text = at_most (2 ^ 60) (option_map_or (λ factor. option_map (λ n. n *
 unfoldable pub priority_of : List ℕ → Option ℤ
 priority_of text =
     let number = signed_digits_value 10 text in
-    if is_number (without_leading_sign text) && int_le (neg_ℤ (pos (2 ^ 31))) number && int_le number (pos (2 ^ 31 - 1)) then Some number else None
+    if is_number (without_leading_sign text) && int_le (neg_ℤ (pos (2 ^ 31))) number && int_le number (pos (2 ^ 31 - 1))
+    then Some number else None

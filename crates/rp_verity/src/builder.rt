@@ -106,7 +106,8 @@ impl<'a> Builder<'a> {
         ensures pushed { pushed_of self.new ≡ pushed_of self.old + 1 }
         ensures taken { (salt block : List ℕ) (taken : List (List ℕ)) → HasTaken self.old salt taken → digest ≡ digest_in_tree salt block
             → OnOk result (HasTaken self.new salt (taken ++ block ∷ [])) }
-        ensures puts { (salt block : List ℕ) (taken rest : List (List ℕ)) → HasTaken self.old salt taken → digest ≡ digest_in_tree salt block
+        ensures puts { (salt block : List ℕ) (taken rest : List (List ℕ)) → HasTaken self.old salt taken
+            → digest ≡ digest_in_tree salt block
             → length (taken ++ block ∷ [] ++ rest) ≡ blocks_of self.old
             → OnOk result (Added (K.told out.old)
             (placed (stored_tree salt (taken ++ block ∷ [] ++ rest))

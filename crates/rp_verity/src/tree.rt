@@ -43,7 +43,8 @@ pub(crate) fn add<K: TreeOut>(
     requires room { length room.old ≡ 4096 * levels }
     requires total { total ≤ 2 ^ 32 }
     requires before { before < total }
-    ensures adds { (salt : List ℕ) (digests : List (List ℕ)) → Holds256 salted.now salt → AreDigests digests → IsDigest new → length digests ≡ before → Adds salt levels total digests new room.old room.new (K.told out.old) (K.told out.new) result }
+    ensures adds { (salt : List ℕ) (digests : List (List ℕ)) → Holds256 salted.now salt → AreDigests digests → IsDigest new
+        → length digests ≡ before → Adds salt levels total digests new room.old room.new (K.told out.old) (K.told out.new) result }
     ensures cause { HasCause (K.faults out.old) (K.faults out.new) result }
 {
     if levels == 0 {
@@ -81,7 +82,9 @@ pub(crate) fn close<K: TreeOut>(
     requires room { length room.old ≡ 4096 * levels }
     requires some { 1 ≤ total }
     requires few { total ≤ 2 ^ 32 }
-    ensures closes { (salt : List ℕ) (digests : List (List ℕ)) → Holds256 salted.now salt → AreDigests digests → AreDigests (option_to_list carried) → length (digests ++ option_to_list carried) ≡ total → Closes salt levels digests carried room.old (K.told out.old) (K.told out.new) result }
+    ensures closes { (salt : List ℕ) (digests : List (List ℕ)) → Holds256 salted.now salt → AreDigests digests
+        → AreDigests (option_to_list carried) → length (digests ++ option_to_list carried) ≡ total
+        → Closes salt levels digests carried room.old (K.told out.old) (K.told out.new) result }
     ensures cause { HasCause (K.faults out.old) (K.faults out.new) result }
 {
     if levels == 0 {
@@ -112,7 +115,8 @@ fn put_block<K: TreeOut>(
     requires at { at < total }
     ensures digest { IfOk result (λ up. (salt : List ℕ) → Holds256 salted.now salt → up ≡ digest salt block.now) }
     ensures put { OnOk result (Added (K.told out.old) ((place_of above total (at + 1), block.now) ∷ []) (K.told out.new)) }
-    ensures failed { IfSome (K.told out.old) (λ puts. OnErr result (AddedSome puts ((place_of above total (at + 1), block.now) ∷ []) (K.told out.new))) }
+    ensures failed { IfSome (K.told out.old) (λ puts. OnErr result
+        (AddedSome puts ((place_of above total (at + 1), block.now) ∷ []) (K.told out.new))) }
     ensures cause { HasCause (K.faults out.old) (K.faults out.new) result }
 {
     out.put(blocks_over(above, runs(total)) + at / FAN, block)?;
