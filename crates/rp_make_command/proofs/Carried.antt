@@ -3,7 +3,6 @@ use Rattle.std.proofs.Common.{◌≡◌, ◌∙◌, ℕ, All, IfSome, List, Bool
 use Rattle.rp_apply.specs.Ready.{IsReadyFor}
 use Rattle.rp_apply.specs.Sourced.{paths_of}
 use Rattle.rp_apply.specs.declared.ready.Ready.{Ready}
-use Rattle.rp_apply_command.specs.Applies.{Outcome}
 use Rattle.rp_apply_command.proofs.Carried.{outcome_of as told_outcome, refusal_of as told_refusal}
 use Rattle.rp_apply_command.proofs.Goals.{goal_by}
 use Rattle.rp_defs.specs.declared.definition.Definition.{Definition}
@@ -19,13 +18,13 @@ use Rattle.rp_outcome.specs.Device.{Device}
 use Rattle.rp_outcome.specs.Refusals.{Refusal, repair_refusal}
 use Rattle.rp_outcome.specs.Store.{Store}
 use Rattle.rp_plan.specs.Goal.{goal}
-use Rattle.rp_planned.specs.Planning.{AsksSources, PlansBy, PlansImage, PlansSeen, PlansUnless, ReadsImage, must_repair, target_of}
+use Rattle.rp_planned.specs.Planning.{PlansBy, PlansImage, PlansSeen, PlansUnless, ReadsImage, must_repair, target_of}
 use Rattle.rp_planned.specs.declared.planned.Planned.{Planned}
 use Rattle.rp_planned.specs.declared.request.Request.{Request}
 use Rattle.rp_sizes.specs.declared.need.Fact.{Fact}
 use Rattle.rp_step.specs.declared.fault.ApplyFault.{ApplyFault}
 use Rattle.rp_step.specs.declared.fault.ApplyFault.TheVariants.{DiskFault, SourceFault, SourceChanged}
-use Rattle.rp_make_command.specs.Makes.{SourcesStay, outcome_of, refusal_of}
+use Rattle.rp_make_command.specs.Makes.{SourcesStay, refusal_of}
 
 same_refusal : (fault : ApplyFault) → told_refusal fault ≡ refusal_of fault
 same_refusal DiskFault = refl

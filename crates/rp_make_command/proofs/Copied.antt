@@ -1,7 +1,7 @@
 -- Each copy of what is planned from the source that is made has its file.
-use Rattle.std.proofs.Common.{◌≡◌, ◌≢◌, ◌∙◌, ◌⊎◌, ℕ, ◌*◌, ◌+◌, ◌-◌, ◌≤◌, Bool, true, false, cond, eqb, leb, List, [], ◌∷◌, ◌++◌, length, Option, Some, None, Result, Ok, Err, refl, sym, ap, subst, inl, inr, arith, All, IfSome}
-use Rattle.std.specs.Option.{option_map_or, option_and_then, option_map}
-use Rattle.std.specs.Prelude.{Any, IsSome, IfOk, codes, get_or, nat_lt, slice_get, unwrap_or, zip}
+use Rattle.std.proofs.Common.{◌≡◌, ◌≢◌, ◌∙◌, ℕ, ◌*◌, ◌+◌, ◌-◌, ◌≤◌, Bool, true, false, cond, eqb, leb, List, [], ◌∷◌, ◌++◌, length, Option, Some, None, refl, ap, subst, arith, All, IfSome}
+use Rattle.std.specs.Option.{option_map_or, option_map}
+use Rattle.std.specs.Prelude.{IsSome, codes, nat_lt, slice_get, unwrap_or, zip}
 use Rattle.std.proofs.lemmas.Bool.{eqb-false}
 use Rattle.std.proofs.lemmas.Bool.Decides.{nat_tests}
 use Rattle.std.proofs.lemmas.Option.{get_or_from_slice_get, slice_get-map, slice_get_within}

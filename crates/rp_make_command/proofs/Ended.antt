@@ -1,12 +1,11 @@
 -- How a run of `make` ends, by its stages.
-use Rattle.std.proofs.Common.{ℕ, ◌≡◌, ◌⊎◌, ◌≤◌, List, Bool, false, Option, Some, None, Result, Ok, Err, refl, sym, ◌∙◌, ap, subst, inl, inr, arith}
-use Rattle.std.specs.Prelude.{IfOk, IfErr}
-use Rattle.rp_apply_command.specs.Applies.{CarriesOut, IsCommitRefusal, Opens, Outcome, PlanFits}
+use Rattle.std.proofs.Common.{ℕ, ◌≡◌, ◌⊎◌, List, false, Option, Some, None, Result, Ok, Err, refl, sym, ◌∙◌, ap, subst, inl, inr, arith}
+use Rattle.std.specs.Prelude.{IfErr}
+use Rattle.rp_apply_command.specs.Applies.{IsCommitRefusal, Opens, Outcome}
 use Rattle.rp_base.specs.Faults.{Rose}
 use Rattle.rp_base.specs.declared.faults.Failed.{Failed}
 use Rattle.rp_base.specs.declared.guid.Guid.{Guid}
 use Rattle.rp_check_command.specs.Checks.{Finds, check_request}
-use Rattle.rp_check_command.specs.Reports.{difference_line, same_line}
 use Rattle.rp_defs.specs.declared.definition.Definitions.{Definitions}
 use Rattle.rp_difference.specs.declared.difference.Difference.{Difference}
 use Rattle.rp_io.specs.Files.{Tree}
@@ -19,7 +18,7 @@ use Rattle.rp_outcome.specs.Output.{Output, Refuses}
 use Rattle.rp_outcome.specs.Refusals.{Refusal, disk_refusal, memory_refusal}
 use Rattle.rp_outcome.specs.Store.{Store}
 use Rattle.rp_plan_command.specs.Plans.{Tells as TellsPlan}
-use Rattle.rp_plan_command.specs.Statuses.{ByStatus, IsRefused}
+use Rattle.rp_plan_command.specs.Statuses.{IsRefused}
 use Rattle.rp_plan_command.proofs.Statuses.{by_status}
 use Rattle.rp_planned.specs.Planning.{PlansImage}
 use Rattle.rp_planned.specs.declared.planned.Planned.{Planned}
@@ -28,7 +27,7 @@ use Rattle.rp_reading.specs.Reading.{IsReadingRefusal, ReadsDefinitions}
 use Rattle.rp_reading.specs.Stages.{HasStageCause}
 use Rattle.rp_types.specs.declared.arch.Arch.TheVariants.{X86_64}
 use Rattle.rp_make_command.specs.Ends.{MakeEnds}
-use Rattle.rp_make_command.specs.Makes.{Makes, MakesCarried, MakesChecked, MakesCheckedBehind, MakesCompared, MakesComparedBehind, MakesFrom, MakesGrown, MakesGrownBehind, MakesLooked, MakesLookedBehind, MakesOpened, MakesOpenedBehind, MakesPlanned, MakesPlannedBehind, MakesRead, MakesReadBehind, TellsFound, made_store, make_request}
+use Rattle.rp_make_command.specs.Makes.{Makes, MakesChecked, MakesCheckedBehind, MakesCompared, MakesComparedBehind, MakesGrownBehind, MakesLookedBehind, MakesOpenedBehind, MakesPlannedBehind, MakesReadBehind, TellsFound, made_store, make_request}
 use Rattle.rp_make_command.specs.Summary.{TellsMade, front_text}
 
 -- no failed call was passed over by a stage that answered

@@ -1,5 +1,5 @@
 -- What the image differs in was looked for, by how that ended.
-use Rattle.std.proofs.Common.{ℕ, ◌≡◌, ◌⊎◌, ◌*◌, ◌≤◌, List, length, Option, Some, None, Result, Ok, Err, IfSome, refl, sym, ap, inl, inr, arith}
+use Rattle.std.proofs.Common.{ℕ, ◌≡◌, ◌*◌, ◌≤◌, List, length, Option, Some, None, Result, Ok, Err, IfSome, refl, ap, inl, inr, arith}
 use Rattle.rp_base.specs.Faults.{Rose}
 use Rattle.rp_check_command.specs.Checks.{Finds}
 use Rattle.rp_difference.specs.Difference.{BeginsWith, difference, table_difference}

@@ -1,5 +1,5 @@
 -- The root hash of the first pair, row by row.
-use Rattle.std.proofs.Common.{◌≡◌, ℕ, suc, ◌+◌, ◌<◌, ◌≤◌, List, [], ◌∷◌, length, drop, get_or, Option, Some, None, true, false, add-one, drop-cons, refl, sym}
+use Rattle.std.proofs.Common.{◌≡◌, ℕ, suc, ◌+◌, ◌<◌, ◌≤◌, List, length, drop, get_or, Option, None, true, false, add-one, drop-cons, refl}
 use Rattle.std.specs.Prelude.{is_some}
 use Rattle.std.proofs.Math.ListN.{drop_of_length-le}
 use Rattle.rp_base.specs.declared.plan.Note.{Note}

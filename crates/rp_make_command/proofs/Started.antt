@@ -1,5 +1,5 @@
 -- A run of `make` from the input that it has made.
-use Rattle.std.proofs.Common.{ℕ, ◌≡◌, ◌∙◌, List, Option, Some, Ok, sym, ap, subst, inr}
+use Rattle.std.proofs.Common.{ℕ, ◌≡◌, ◌∙◌, List, Some, Ok, ap, subst, inr}
 use Rattle.rp_base.specs.declared.guid.Guid.{Guid}
 use Rattle.rp_defs.specs.declared.definition.Definitions.{Definitions}
 use Rattle.rp_io.specs.Files.{Tree}

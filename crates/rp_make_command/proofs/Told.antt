@@ -1,5 +1,5 @@
 -- The summary is its front and what the image differs in.
-use Rattle.std.proofs.Common.{ℕ, ◌≡◌, ◌++◌, List, [], Option, Some, None, Ok, refl, subst, inl, inr, append-nil, sym}
+use Rattle.std.proofs.Common.{ℕ, ◌++◌, List, [], Option, Some, None, Ok, refl, subst, inl, inr, append-nil}
 use Rattle.rp_check_command.specs.Checks.{Tells}
 use Rattle.rp_check_command.specs.Reports.{difference_line, same_line}
 use Rattle.rp_difference.specs.declared.difference.Difference.{Difference}

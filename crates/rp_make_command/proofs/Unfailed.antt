@@ -1,8 +1,8 @@
 -- No run of `make` ends with the status of folders or sources that failed.
-use Rattle.std.proofs.Common.{ℕ, ◌≡◌, ◌⊎◌, ◌≤◌, ◌∙◌, List, Bool, false, Option, Some, None, Result, Ok, Err, refl, sym, ap, subst, inl, inr, arith, All, IfSome}
+use Rattle.std.proofs.Common.{ℕ, ◌≡◌, ◌⊎◌, ◌≤◌, ◌∙◌, List, false, Option, Some, None, Result, Ok, Err, refl, sym, ap, subst, inl, inr, arith, All, IfSome}
 use Rattle.std.specs.Prelude.{IfErr, codes}
 use Rattle.rp_apply.specs.Sourced.{paths_of}
-use Rattle.rp_apply_command.specs.Applies.{CarriesOut, IsCommitRefusal, Opens, Outcome}
+use Rattle.rp_apply_command.specs.Applies.{IsCommitRefusal, Opens, Outcome}
 use Rattle.rp_apply_command.proofs.Goals.{settled_ok, told_same}
 use Rattle.rp_base.specs.Faults.{Rose}
 use Rattle.rp_base.specs.declared.faults.Failed.{Failed}
@@ -14,8 +14,8 @@ use Rattle.rp_difference.specs.declared.difference.Difference.{Difference}
 use Rattle.rp_io.specs.Files.{Tree, content}
 use Rattle.rp_io.specs.declared.stored.Stored.{Stored}
 use Rattle.rp_make_input.specs.Bytes.{source_bytes}
-use Rattle.rp_make_input.specs.MakeInput.{MakeInput, make_input, seed_of, source_files, tree_for, folders_of}
-use Rattle.rp_make_room.specs.Room.{Grows, IsRoomRefusal, Looks, room_in}
+use Rattle.rp_make_input.specs.MakeInput.{make_input, seed_of, source_files, tree_for, folders_of}
+use Rattle.rp_make_room.specs.Room.{IsRoomRefusal, Looks, room_in}
 use Rattle.rp_outcome.specs.Device.{Device}
 use Rattle.rp_outcome.specs.Output.{Output, Refuses}
 use Rattle.rp_outcome.specs.Refusals.{Refusal, disk_refusal, folder_refusal, memory_refusal, source_refusal}

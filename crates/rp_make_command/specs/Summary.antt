@@ -1,11 +1,11 @@
 -- The summary of what was made.
-use Rattle.std.specs.Prelude.{ℕ, ◌≡◌, List, [], ◌∷◌, ◌++◌, Option, Some, None, codes, length}
+use Rattle.std.specs.Prelude.{ℕ, List, [], ◌∷◌, ◌++◌, Option, Some, None, codes, length}
 use Rattle.std.specs.Fmt.{decimal}
 use Rattle.hex.specs.Hex.{encode_lower}
 use Rattle.rp_base.specs.declared.plan.Note.{Note}
 use Rattle.rp_base.specs.declared.plan.Plan.{Plan}
 use Rattle.rp_base.specs.declared.plan.Role.{Role}
-use Rattle.rp_base.specs.declared.plan.Role.TheVariants.{Plain, Data, Hash}
+use Rattle.rp_base.specs.declared.plan.Role.TheVariants.{Hash}
 use Rattle.rp_check_command.specs.Reports.{difference_line, same_line}
 use Rattle.rp_difference.specs.declared.difference.Difference.{Difference}
 use Rattle.rp_outcome.specs.Output.{Differs, Finishes, Output}

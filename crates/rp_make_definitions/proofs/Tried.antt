@@ -1,5 +1,5 @@
 -- What the files of each number say, by computing it.
-use Rattle.std.proofs.Common.{◌≡◌, ℕ, zero, suc, ◌+◌, ◌*◌, ◌/◌, ◌%◌, ℤ, pos, negsuc, Bool, true, false, Result, Ok, Err, List, [], ◌∷◌, ◌++◌, refl, length, Option, Some, None}
+use Rattle.std.proofs.Common.{◌≡◌, ℕ, zero, suc, ◌+◌, ℤ, pos, negsuc, Bool, true, false, Result, Ok, Err, List, refl, length, Option, Some, None}
 use Rattle.std.specs.Prelude.{codes, ◌&&◌, ◌==◌}
 use Rattle.std.specs.List.{list_all}
 use Rattle.std.specs.Str.{bytes_eq, chars, is_utf8}

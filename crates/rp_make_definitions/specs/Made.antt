@@ -1,5 +1,5 @@
 -- The definitions that are made from a number.
-use Rattle.std.specs.Prelude.{ℕ, ◌≡◌, ◌+◌, pos, List, All, IfSome, codes, length, Ok}
+use Rattle.std.specs.Prelude.{ℕ, ◌≡◌, ◌+◌, pos, All, IfSome, codes, length, Ok}
 use Rattle.rp_defs.specs.declared.definition.Definition.{Definition}
 use Rattle.rp_defs.specs.declared.definition.Definitions.{Definitions}
 use Rattle.rp_make_input.specs.MakeInput.{folders_of, tree_for}

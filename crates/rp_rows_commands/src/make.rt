@@ -1,7 +1,8 @@
 //! What `make` begins with: its input, and the image that it may be made on.
 use rp_base::List;
-use rp_disk::MemDisk;
+use rp_disk::{Call, MemDisk};
 use rp_io::{Content, Folders, MemSink, Sources};
+use rp_make_command::make;
 use rp_make_input::{Input, input_of};
 use rp_make_room::{NoRoom, look, refuse_room};
 use std::test::Fail;
@@ -50,4 +51,18 @@ fn an_image_that_is_too_long_is_told(rt: HostRuntime) {
     let cause = NoRoom::Length { len: 1_073_741_825 };
     assert_eq!(rt; refuse_room(&mut out, &cause), 4);
     assert_eq!(rt; out.bytes(), b"error 4 MakeLength 1073741825\n".as_slice());
+}
+
+// The disk passes seven calls: the sync, those that read the blank image, and none of its growth.
+#[test]
+fn with_ample_memory_make_goes_on_to_the_growth(rt: HostRuntime) -> Result<(), Fail> {
+    let alloc = rt.alloc();
+    let bytes = List::from_vec(vec![in alloc; 0; 68 * 512]?);
+    let mut disk = MemDisk::fused(alloc, bytes, 7);
+    let mut out = MemSink::new(alloc, List::new(alloc));
+    assert_eq!(rt; make(alloc, 100, &mut disk, &mut out), 7);
+    assert_eq!(rt; out.bytes(), b"error 7 disk\n".as_slice());
+    assert!(rt; matches!(disk.calls(), [Call::Sync]));
+    assert_eq!(rt; disk.bytes().len(), 34_816);
+    Ok(())
 }

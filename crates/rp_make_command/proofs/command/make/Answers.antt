@@ -1,4 +1,3 @@
-use Rattle.std.proofs.Common.{◌≡◌, sym}
 use Rattle.rp_outcome.specs.Device.{device}
 use Rattle.rp_outcome.specs.Output.{output}
 use Rattle.rp_make_command.proofs.Started.{started}

@@ -1,5 +1,4 @@
-use Rattle.std.proofs.Common.{Err, refl, subst}
-use Rattle.rp_base.specs.declared.faults.Failed.{Failed}
+use Rattle.std.proofs.Common.{refl}
 use Rattle.rp_outcome.specs.Device.{device}
 use Rattle.rp_make_command.proofs.command.make_looked.Goals as goal
 

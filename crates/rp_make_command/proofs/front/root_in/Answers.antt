@@ -1,4 +1,4 @@
-use Rattle.std.proofs.Common.{◌≡◌, ◌∙◌, sym, arith}
+use Rattle.std.proofs.Common.{◌∙◌, sym, arith}
 use Rattle.rp_make_command.proofs.Rooted.{root_end, root_here, root_later}
 use Rattle.rp_make_command.proofs.front.root_in.Goals as goal
 
