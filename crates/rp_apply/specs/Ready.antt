@@ -20,8 +20,7 @@ NamesPath paths (Copy file at len) = file < length paths
 NamesPath paths other = ⊤
 
 -- its plan is well formed for what was seen, with numbers within their fields, its steps are those of the plan, each source
--- has its path, all blocks are lent,
--- and they hold both copies of the goal
+-- has its path, all blocks are lent, and they hold both copies of the goal
 pub record IsReady (ready : Ready) : Type 0 where
   pub well_formed : IsWellFormed ready.seen ready.plan
   pub table_fits : TableFits ready.plan.goal

@@ -72,8 +72,7 @@ pub record StopsSafely (request : Request) (list : List Definition) (disk later 
       (StopsIfHonest request.sector (held (history_of bytes disk.calls)) planned.seen planned.plan body)
 
 -- where the sources tell too: the plan is the goal by what they tell, and the calls are those of its steps; a stop leaves
--- the old table or the goal with all that, and
--- on a disk that writes each sector whole or not at all it does so without a premise on chance
+-- the old table or the goal with all that, and on a disk that writes each sector whole or not at all it does so without a premise on chance
 pub record StopsExactly (request : Request) (list : List Definition) (disk later : Device) (planned : Planned) (calls : List Call)
     (bytes : List ℕ) (files : List Stored) : Type 0 where
   pub goal : planned_of request list (held (history_of bytes disk.calls)) files ≡ Ok planned

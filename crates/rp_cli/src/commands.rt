@@ -85,8 +85,7 @@ pub fn run<D: Disk, F: Folders, S: Sources, K: Sink>(
         (store S.told S.faults S.strays sources.old) (store S.told S.faults S.strays sources.new)
         (output K.told K.faults out.old) (output K.told K.faults out.new) result) }
     // `apply` reads definitions, syncs the disk, plans as `plan` does, takes all memory, carries the plan out by the calls
-    // of its steps, and
-    // prints it.
+    // of its steps, and prints it.
     ensures apply { IfOk (line_of (map string_bytes words.now)) (λ line. line.command ≡ Command.Apply → line.factory_reset ≡ false
         → AppliesAsked (request_of_line line) line.json (paths_of (text_in Opt.Definitions (map string_bytes words.now)))
         (store F.told F.faults F.strays folders.old) (store F.told F.faults F.strays folders.new)
