@@ -8,7 +8,7 @@ use Rattle.rp_base.specs.Plan.{IsWellFormed as IsPlan}
 use Rattle.rp_defs.specs.WellFormed.{IsWellFormed}
 use Rattle.rp_defs.specs.declared.definition.Definition.{Definition}
 use Rattle.rp_defs.specs.declared.definition.Definitions.{Definitions}
-use Rattle.rp_disk.specs.History.{History, held}
+use Rattle.rp_disk.specs.History.{History, IsSettled, held}
 use Rattle.rp_disk.specs.Made.{dones, history_of, history_told}
 use Rattle.rp_disk.specs.Runs.{AtAnyMomentBehindSync, EndsSettled, MadeFirst}
 use Rattle.rp_disk.specs.declared.call.Call.{Call}
@@ -178,6 +178,7 @@ module _ (request : Request) (definitions : Definitions) (disk opened read later
     carries_all = record {
       some = carries_some;
       all = all;
+      settled = where_told disk.first (λ bytes. IsSettled (history_of bytes later.calls)) (λ bytes tells. (settled bytes).0);
       ends = where_told disk.first (λ bytes. AtTheEnd bytes later
           (HasGoal request.sector (old bytes) planned.seen list request.seed planned.plan)) ends_so;
       ends_exactly = where_told disk.first (λ bytes. IfSome sources.told (λ files. AtTheEnd bytes later

@@ -7,7 +7,7 @@ use Rattle.rp_base.specs.declared.plan.Plan.{Plan}
 use Rattle.rp_defs.specs.WellFormed.{IsWellFormed}
 use Rattle.rp_defs.specs.declared.definition.Definition.{Definition}
 use Rattle.rp_defs.specs.declared.definition.Definitions.{Definitions}
-use Rattle.rp_disk.specs.History.{LeftSince, MayLeave, moment, held}
+use Rattle.rp_disk.specs.History.{IsSettled, LeftSince, MayLeave, moment, held}
 use Rattle.rp_disk.specs.Made.{dones, history_of}
 use Rattle.rp_disk.specs.Runs.{MadeFirst}
 use Rattle.rp_disk.specs.declared.call.Call.{Call}
@@ -44,7 +44,8 @@ AtEachMoment bytes disk later Safe =
 abbrev pub AtTheEnd : List ℕ → Device → (List ℕ → Type 0) → Type 0
 AtTheEnd bytes later P = (image : List ℕ) → MayLeave (history_of bytes later.calls) image → P image
 
--- nothing was carried out: no call was made but a sync, and a stop since leaves the image that was shown
+-- nothing was carried out: no call was made but a sync, and a stop since leaves the image that was shown, or one that could have been
+-- left when it began
 pub record LeavesAll (disk later : Device) : Type 0 where
   pub made : MadeFirst disk.calls (Sync ∷ []) later.calls
   pub at_moments : IfSome disk.first (λ bytes. AtEachMoment bytes disk later (IsUntouched (held (history_of bytes disk.calls))))
@@ -64,7 +65,7 @@ abbrev pub Given : List Definition → List Stored → Sources
 Given list files = sources_in files (paths_of list)
 
 -- what holds of an image and its plan, whatever sources that don't tell have: a stop leaves the old table or the goal, with the
--- bytes of each old row, and where the image grows torn, it is told by the premise on chance alone
+-- bytes of each old row
 pub record StopsSafely (request : Request) (list : List Definition) (disk later : Device) (planned : Planned) (body : List Call)
     (bytes : List ℕ) : Type 0 where
   pub goal : IsGoalOf request list (held (history_of bytes disk.calls)) planned
@@ -91,13 +92,14 @@ pub record CarriesSome (request : Request) (list : List Definition) (disk later 
   pub stops : IfSome disk.first (StopsSafely request list disk later planned are.body)
   pub stops_exactly : IfSome disk.first (λ bytes. IfSome sources.told (StopsExactly request list disk later planned calls bytes))
 
--- all of it was carried out: a sync and each call of its steps. The bytes shown are the image with the goal, and a stop leaves
--- nothing else: its table is the goal, every old partition keeps its place and bytes, and a second run has nothing to do where none
+-- all of it was carried out: a sync and each call of its steps. Nothing is pending, so a stop leaves the bytes shown and nothing
+-- else: its table is the goal, every old partition keeps its place and bytes, and a second run has nothing to do where none
 -- was dropped; where the sources tell, it is the final image, and new partitions hold their contents
 pub record CarriesAll (request : Request) (list : List Definition) (disk later : Device) (sources : Store (List Stored))
     (planned : Planned) (calls : List Call) : Type 0 where
   pub some : CarriesSome request list disk later sources planned calls
   pub all : later.calls ≡ disk.calls ++ dones (Sync ∷ calls)
+  pub settled : IfSome disk.first (λ bytes. IsSettled (history_of bytes later.calls))
   pub ends : IfSome disk.first (λ bytes. AtTheEnd bytes later
       (HasGoal request.sector (held (history_of bytes disk.calls)) planned.seen list request.seed planned.plan))
   pub ends_exactly : IfSome disk.first (λ bytes. IfSome sources.told (λ files. AtTheEnd bytes later

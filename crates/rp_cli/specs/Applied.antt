@@ -54,8 +54,8 @@ abbrev pub IsDone : ℕ → Type 0
 IsDone status = (status ≡ exit.done) ⊎ (status ≡ exit.sink)
 
 -- stopped at any moment, the image shows the old table or the goal with all that, provided that no torn header passes its checksum
--- by chance: either nothing was carried out, and each image that a stop might leave is the old one, or the first calls of a plan
--- were made that is the goal
+-- by chance: either nothing was carried out, and each image that a stop might leave is the old one, or could have been left when it
+-- began, or the first calls of a plan were made that is the goal
 abbrev pub IsSafeThroughout : Request → List (List ℕ) → Store Tree → Device → Device → Store (List Stored) → Type 0
 IsSafeThroughout request dirs folders disk later sources =
     LeavesAll disk later

@@ -1,5 +1,5 @@
 -- What a run that carries out a goal leaves, at its end and at any moment.
-use Rattle.std.proofs.Common.{◌≡◌, ◌∙◌, ℕ, List, [], ◌∷◌, ◌++◌, Some, Ok, refl, sym, subst, inl, inr, append-nil}
+use Rattle.std.proofs.Common.{◌≡◌, ◌∙◌, ℕ, List, [], ◌∷◌, ◌++◌, Some, Ok, refl, sym, subst, ap, drop, inl, inr, ◌⊎◌, append-nil}
 use Rattle.rp_base.specs.declared.guid.Guid.{Guid}
 use Rattle.rp_base.specs.declared.plan.Plan.{Plan}
 use Rattle.rp_base.specs.declared.seen.Seen.{Seen}
@@ -9,7 +9,7 @@ use Rattle.rp_disk.specs.History as history
 use Rattle.rp_disk.specs.History.{LeftSince, MayLeave, moment}
 use Rattle.rp_disk.specs.Made.{Made, history_of}
 use Rattle.rp_disk.specs.Runs.{AtAnyMomentBehindSync, EndsSettled}
-use Rattle.rp_disk.specs.Stops.{Agrees, Leaves}
+use Rattle.rp_disk.specs.Stops.{Agrees, IsFrontOf, Leaves}
 use Rattle.rp_disk.specs.declared.call.Call.{Call}
 use Rattle.rp_disk.specs.declared.call.Call.TheVariants.{Sync}
 use Rattle.rp_disk.proofs.Agreeing.{agrees-none}
@@ -88,6 +88,22 @@ module _ (sector : ℕ) (old : List ℕ) (empty : Empty) (seen : Seen) (target :
     new_rows = rows_hold sources fit;
   }
 
+-- what a stop leaves of planned calls, of which each image has Safe
+pub left_with : (bytes : List ℕ) (was : List Made) (planned : List Call) (Safe : List Call → List ℕ → Type 0) (made : List Call)
+    (image : List ℕ)
+    → MayLeave (history_of bytes was) image ⊎ ((more : List Call) × (made ≡ Sync ∷ more) × IsFrontOf more planned
+    × Leaves (history.held (history_of bytes was)) more image)
+    → MayLeave (history_of bytes was) image ⊎ ((more : List Call) × (made ≡ Sync ∷ more) × Safe more image)
+    → IsLeft (history_of bytes was) Safe made image
+left_with bytes was planned Safe made image left safe = elim left [
+  | inl before ↦ inl before
+  | inr behind ↦ elim safe [
+    | inl before ↦ inl before
+    | inr so ↦
+        inr (behind.0, behind.1, behind.3, subst (λ calls. Safe calls image) (ap (drop 1) (sym so.1 ∙ behind.1)) so.2)
+  ]
+]
+
 module _ (sector : ℕ) (bytes : List ℕ) (empty : Empty) (seen : Seen) (target : ℕ) (defs : List Definition) (facts : List Fact) (seed : Guid)
     (plan : Plan) (was now : List Made)
     (is : IsPlanned sector (history.held (history_of bytes was)) empty seen target defs facts seed plan) where
@@ -98,8 +114,9 @@ module _ (sector : ℕ) (bytes : List ℕ) (empty : Empty) (seen : Seen) (target
       → (made : List Call) (image : List ℕ) → LeftSince (history_of bytes now) (moment (history_of bytes was)) made image
       → IsLeft (history_of bytes was) (StopsIfHonest sector old seen plan body) made image
   is_left_any body planned any are made image since =
-      behind_sync sector bytes empty seen plan body planned was now any
-      (plan_for sector old empty seen target defs facts seed plan is) are made image since
+      left_with bytes was planned (StopsIfHonest sector old seen plan body) made image (any made image since)
+      (behind_sync sector bytes empty seen plan body planned was now any
+      (plan_for sector old empty seen target defs facts seed plan is) are made image since)
 
   pub is_left : (sources : Sources) → AtAnyMomentBehindSync (Some bytes) was (calls plan seen sources) now → NotesFit plan
       → (made : List Call) (image : List ℕ) → LeftSince (history_of bytes now) (moment (history_of bytes was)) made image
@@ -112,7 +129,8 @@ module _ (sector : ℕ) (bytes : List ℕ) (empty : Empty) (seen : Seen) (target
             inr (
               behind.0,
               behind.1,
-              λ honest. (behind.2 honest).holds (contents plan sources (grown old plan))
+              behind.2,
+              λ honest. (behind.3 honest).holds (contents plan sources (grown old plan))
                   (rows_filled sector old empty seen target defs facts seed plan is sources fit),
             )
       ]
@@ -126,6 +144,7 @@ module _ (sector : ℕ) (bytes : List ℕ) (empty : Empty) (seen : Seen) (target
         inr (
           behind.0,
           behind.1,
+          behind.3,
           λ whole. (alone sector old empty seen plan (contents_calls plan sources) (calls plan seen sources) behind.0 image
               (plan_for sector old empty seen target defs facts seed plan is)
               (are_calls_of sector old empty seen target defs facts seed plan is sources fit) behind.2 behind.3
@@ -171,6 +190,7 @@ is_untouched bytes was now any made image since = elim (any made image since) [
       inr (
         behind.0,
         behind.1,
+        behind.3,
         (
           none,
           agrees-none (history.held (history_of bytes was)) image

@@ -4,7 +4,8 @@ use Rattle.rp_base.specs.declared.guid.Guid.{Guid}
 use Rattle.rp_base.specs.declared.plan.Plan.{Plan}
 use Rattle.rp_base.specs.declared.seen.Seen.{Seen}
 use Rattle.rp_defs.specs.declared.definition.Definition.{Definition}
-use Rattle.rp_disk.specs.History.{History, MayLeave}
+use Rattle.rp_disk.specs.History.{History, MayLeave, held}
+use Rattle.rp_disk.specs.Stops.{Leaves}
 use Rattle.rp_disk.specs.declared.call.Call.{Call}
 use Rattle.rp_disk.specs.declared.call.Call.TheVariants.{Sync}
 use Rattle.rp_gpt.specs.Shown.{accepted}
@@ -44,9 +45,10 @@ pub record IsDoneWith (sector : ℕ) (old : List ℕ) (seen : Seen) (defs : List
   pub new_rows : HoldContents plan contents image
 
 -- an image that a stop might have left since a moment, when these calls had been made: it could have been left at that
--- moment already, or the first call is a sync, and it is one of those that have Safe, by the calls behind it
+-- moment already, or the first call is a sync, and the calls behind it may leave it on what was shown then, and it has Safe by them
 abbrev pub IsLeft : History → (List Call → List ℕ → Type 0) → List Call → List ℕ → Type 0
-IsLeft start Safe made image = MayLeave start image ⊎ ((more : List Call) × (made ≡ Sync ∷ more) × Safe more image)
+IsLeft start Safe made image = MayLeave start image
+    ⊎ ((more : List Call) × (made ≡ Sync ∷ more) × Leaves (held start) more image × Safe more image)
 
 -- where no torn header passes its checksum by chance, the image shows the old table or the goal, keeps the bytes of old rows,
 -- and where it shows the goal and the old one doesn't, its new rows hold their contents

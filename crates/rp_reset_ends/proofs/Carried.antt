@@ -14,7 +14,7 @@ use Rattle.rp_defs.specs.WellFormed.{IsWellFormed}
 use Rattle.rp_defs.specs.declared.definition.Definition.{Definition}
 use Rattle.rp_defs.specs.declared.definition.Definitions.{Definitions}
 use Rattle.rp_disk.specs.Blocks.{flat}
-use Rattle.rp_disk.specs.History.{held}
+use Rattle.rp_disk.specs.History.{IsSettled, held}
 use Rattle.rp_disk.specs.Made.{Made, dones, history_of, history_told}
 use Rattle.rp_disk.specs.Runs.{AtAnyMomentBehindSync, EndsSettled, MadeFirst}
 use Rattle.rp_disk.specs.declared.call.Call.{Call}
@@ -181,6 +181,7 @@ module _ (request : Request) (definitions : Definitions) (disk opened read : Dev
       all = record {
         some = some;
         all = done;
+        settled = where_told disk.first (λ bytes. IsSettled (history_of bytes later.calls)) (λ bytes tells. (settled bytes).0);
         ends = where_told disk.first (λ bytes. AtTheEnd bytes later
             (HasGoalAnew request.sector (old bytes) seen list request.seed reset plan)) ends_so;
         ends_exactly = where_told disk.first (λ bytes. IfSome sources.told (λ files. AtTheEnd bytes later

@@ -7,7 +7,7 @@ use Rattle.rp_base.specs.declared.plan.Plan.{Plan}
 use Rattle.rp_base.specs.declared.seen.Seen.{Seen}
 use Rattle.rp_defs.specs.declared.definition.Definition.{Definition}
 use Rattle.rp_disk.specs.Calls.{all_done}
-use Rattle.rp_disk.specs.History.{held}
+use Rattle.rp_disk.specs.History.{IsSettled, held}
 use Rattle.rp_disk.specs.Made.{dones, history_of}
 use Rattle.rp_disk.specs.Runs.{MadeFirst}
 use Rattle.rp_disk.specs.declared.call.Call.{Call}
@@ -74,14 +74,15 @@ pub record CarriesSomeOfBoth (request : Request) (list : List Definition) (disk 
   pub stops_exactly : IfSome disk.first (λ bytes. IfSome sources.told
       (StopsBothExactly request list disk later seen reset plan (before ++ behind) bytes))
 
--- all of both was carried out: a sync and each call of their steps. The bytes shown are the image with the goal, and a stop leaves
--- nothing else: its table is the goal of the reset table and the definitions, every partition of the reset table keeps its place and
+-- all of both was carried out: a sync and each call of their steps. Nothing is pending, so a stop leaves the bytes shown and nothing
+-- else: its table is the goal of the reset table and the definitions, every partition of the reset table keeps its place and
 -- bytes, and a second run without reset has nothing to do where none was dropped; where the sources tell, new partitions hold their
 -- contents
 pub record CarriesAllOfBoth (request : Request) (list : List Definition) (disk later : Device) (sources : Store (List Stored))
     (seen : Seen) (reset plan : Plan) (before behind : List Call) : Type 0 where
   pub some : CarriesSomeOfBoth request list disk later sources seen reset plan before behind
   pub all : later.calls ≡ disk.calls ++ dones (Sync ∷ before ++ behind)
+  pub settled : IfSome disk.first (λ bytes. IsSettled (history_of bytes later.calls))
   pub ends : IfSome disk.first (λ bytes. AtTheEnd bytes later
       (HasGoalAnew request.sector (held (history_of bytes disk.calls)) seen list request.seed reset plan))
   pub ends_exactly : IfSome disk.first (λ bytes. IfSome sources.told (λ files. AtTheEnd bytes later

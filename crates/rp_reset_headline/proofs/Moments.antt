@@ -16,6 +16,7 @@ use Rattle.rp_disk.specs.declared.call.Call.TheVariants.{Sync}
 use Rattle.rp_disk.proofs.Agreeing.{agrees-none}
 use Rattle.rp_gpt.specs.declared.table_fault.Empty.{Empty}
 use Rattle.rp_headline.specs.Left.{IsLeft}
+use Rattle.rp_headline.proofs.Public.{left_with}
 use Rattle.rp_reset_stops.specs.Through.{HoldWhatFills, IsSafeIfHonest, IsSafeIfWhole}
 use Rattle.rp_reset_stops.proofs.Public.{moment_honest, moment_whole}
 use Rattle.rp_sizes.specs.declared.need.Fact.{Fact}
@@ -43,17 +44,21 @@ module _ (sector : ℕ) (bytes : List ℕ) (empty : Empty) (seen : Seen) (target
       → AreCallsOf seen reset [] before → AreCallsOf (seen_after seen reset) plan body behind
       → IsLeftSo (IsSafeIfHonest sector old seen reset plan (HoldWhatFills (all_done old before) plan body))
   left_any before body behind any are are_behind made image since =
-      moment_honest sector bytes empty seen defs reset plan before body behind was now any
+      left_with bytes was (before ++ behind)
+      (IsSafeIfHonest sector old seen reset plan (HoldWhatFills (all_done old before) plan body)) made image (any made image since)
+      (moment_honest sector bytes empty seen defs reset plan before body behind was now any
       (reset_for sector old empty seen defs reset is) are
-      (plan_fits sector old empty seen defs reset is target facts seed plan anew) are_behind made image since
+      (plan_fits sector old empty seen defs reset is target facts seed plan anew) are_behind made image since)
 
   pub left_any_whole : (before body behind : List Call) → AtAnyMomentBehindSync (Some bytes) was (before ++ behind) now
       → AreCallsOf seen reset [] before → AreCallsOf (seen_after seen reset) plan body behind
       → IsLeftSo (IsSafeIfWhole sector old seen reset plan (HoldWhatFills (all_done old before) plan body))
   left_any_whole before body behind any are are_behind made image since =
-      moment_whole sector bytes empty seen defs reset plan before body behind was now any
+      left_with bytes was (before ++ behind)
+      (IsSafeIfWhole sector old seen reset plan (HoldWhatFills (all_done old before) plan body)) made image (any made image since)
+      (moment_whole sector bytes empty seen defs reset plan before body behind was now any
       (reset_for sector old empty seen defs reset is) are
-      (plan_fits sector old empty seen defs reset is target facts seed plan anew) are_behind made image since
+      (plan_fits sector old empty seen defs reset is target facts seed plan anew) are_behind made image since)
 
   pub left_honest : (sources : Sources) → AtAnyMomentBehindSync (Some bytes) was (calls_of_both seen reset plan sources) now → NotesFit plan
       → IsLeftSo (IsSafeIfHonest sector old seen reset plan (HoldAnew old seen reset plan sources))
@@ -63,6 +68,7 @@ module _ (sector : ℕ) (bytes : List ℕ) (empty : Empty) (seen : Seen) (target
         inr (
           later.0,
           later.1,
+          later.3,
           part_honest sector old empty seen target defs facts seed reset plan is anew sources fit later.0 image later.2 later.3,
         )
   ]
@@ -75,6 +81,7 @@ module _ (sector : ℕ) (bytes : List ℕ) (empty : Empty) (seen : Seen) (target
         inr (
           later.0,
           later.1,
+          later.3,
           part_whole sector old empty seen target defs facts seed reset plan is anew sources fit later.0 image later.2 later.3,
         )
   ]

@@ -23,7 +23,8 @@ use Rattle.rp_reset_command.specs.declared.renewal.Renewal.{Renewal}
 use Rattle.rp_reset_ends.proofs.Public.{all_of_both, broken_off, some_of_both}
 use Rattle.rp_reset_ends.specs.Planned.{PlansWithReset, behind_reset}
 use Rattle.rp_stops.specs.After.{seen_after}
-use Rattle.rp_reset_promise.specs.Ends.{CarriesAllBy, CarriesSomeBy}
+use Rattle.rp_reset.specs.Reset.{reset as reset_of}
+use Rattle.rp_reset_promise.specs.Ends.{CarriesAllBy, CarriesSomeBy, ResetsNothing}
 
 module _ (request : Request) (definitions : Definitions) (disk opened read later : Device) (sources asked drained : Store (List Stored))
     (renewal : Renewal) (of_sector : IsSector request.sector) (whole : request.size % 4096 ≡ 0) (most : request.size ≤ 2 ^ 44)
@@ -43,6 +44,13 @@ module _ (request : Request) (definitions : Definitions) (disk opened read later
         told.reads,
         subst (λ (b : Bool). PlansUnless b request definitions.list renewal.seen sources asked (Ok renewal.planned)) (sym told.repaired) over,
       )
+
+  nothing_out : renewal.reset ≡ None → ResetsNothing definitions.list renewal
+  nothing_out none =
+      let same : renewal.planned.seen ≡ renewal.seen =
+      (aimed request definitions.list (seen_left renewal.seen renewal.reset) sources asked renewal.planned told.plans).same
+      ∙ ap (λ (r : Option Plan). seen_left renewal.seen r) none in
+      ap (λ (s : Seen). reset_of s definitions.list) same ∙ told.made ∙ ap (λ (r : Option Plan). Ok r) none
 
   module _ (reset : Plan) (some : renewal.reset ≡ Some reset) where
     abbrev left : Seen
@@ -107,6 +115,7 @@ module _ (request : Request) (definitions : Definitions) (disk opened read later
   some_renewed : (calls : List Call) (answer : Outcome) (o : Option Plan) → renewal.reset ≡ o
       → CarriesRenewal definitions renewal o read later asked drained calls answer → CarriesSomeBy request definitions.list disk later sources renewal o
   some_renewed calls answer None is carries = (
+    nothing_out is,
     calls,
     carries_some request definitions disk opened read later sources asked drained renewal.planned calls answer of_sector whole most formed fits first
         synced (plans_alone is) carries,
@@ -116,6 +125,7 @@ module _ (request : Request) (definitions : Definitions) (disk opened read later
   all_renewed : (calls : List Call) (o : Option Plan) → renewal.reset ≡ o
       → CarriesRenewal definitions renewal o read later asked drained calls (Ok tt) → CarriesAllBy request definitions.list disk later sources renewal o
   all_renewed calls None is carries = (
+    nothing_out is,
     calls,
     carries_all request definitions disk opened read later sources asked drained renewal.planned calls (Ok tt) of_sector whole most formed fits first
         synced (plans_alone is) carries carries.ran.ok,

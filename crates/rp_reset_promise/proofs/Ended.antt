@@ -5,7 +5,7 @@ use Rattle.rp_apply_command.proofs.Ended.{finished, is_commit}
 use Rattle.rp_apply_command.proofs.Goals.{settled_ok}
 use Rattle.rp_apply_command.proofs.Moments.{leaves_all}
 use Rattle.rp_apply_command.proofs.Runs.{made_none, made_sync}
-use Rattle.rp_apply_command.specs.Applies.{CarriesOut, EndsHere, Opens, Outcome, PlanFits}
+use Rattle.rp_apply_command.specs.Applies.{CarriesOut, EndsHere, IsCommitRefusal, Opens, Outcome, PlanFits}
 use Rattle.rp_apply_command.specs.Ends.{AreRead, IsBefore, IsBetween, LeavesAll}
 use Rattle.rp_base.specs.Geometry.{IsSector}
 use Rattle.rp_base.specs.declared.plan.Plan.{Plan}
@@ -30,7 +30,7 @@ use Rattle.rp_reset_command.specs.Renewing.{RenewsImage, with_reset}
 use Rattle.rp_reset_command.specs.Reports.{renewal_report}
 use Rattle.rp_reset_command.specs.declared.renewal.Renewal.{Renewal}
 use Rattle.rp_reset_promise.proofs.Carried.{carried_all, carried_some}
-use Rattle.rp_reset_promise.specs.Ends.{ResetEnds}
+use Rattle.rp_reset_promise.specs.Ends.{IsRenewalRefusal, ResetEnds}
 use Rattle.rp_reset_promise.specs.Ends.ResetEnds.{before, behind, broken, between}
 
 is_reading : (refusal : Refusal) → IsReadingRefusal refusal → IsRefused refusal
@@ -38,19 +38,37 @@ is_reading refusal (inl three) = inl (inl three)
 is_reading refusal (inr (inl failed)) = inr (inr (inl (ap (λ (r : Refusal). r.status) failed)))
 is_reading refusal (inr (inr want)) = inl (inr (inr (inr (ap (λ (r : Refusal). r.status) want))))
 
--- a plan that was broken off has the refusal of a plan
-pub broken_status : (definitions : Definitions) (renewal : Renewal) (o : Option Plan) (disk later : Device) (sources drained : Store (List Stored))
-    (calls : List Call) (refusal : Refusal) → CarriesRenewal definitions renewal o disk later sources drained calls (Err refusal)
-    → IsBetween refusal.status
-broken_status definitions renewal None disk later sources drained calls refusal carries = is_commit renewal.planned refusal carries.refusal
-broken_status definitions renewal (Some reset) disk later sources drained calls refusal carries = by carries.outcome carries.resets carries.goes_on where
-  by : (outcome : Outcome) → CarriesOut definitions (with_reset renewal reset) disk carries.middle sources carries.between carries.before outcome
-      → GoesOn definitions renewal.planned carries.middle later carries.between drained carries.behind outcome (Err refusal) → IsBetween refusal.status
-  by (Ok done) resets goes_on = is_commit renewal.planned refusal goes_on.refusal
-  by (Err other) resets (same, same_sources, none, is) =
-      subst (λ (r : Refusal). IsBetween r.status) (sym (same_err refusal other is)) (is_commit (with_reset renewal reset) other resets.refusal) where
+-- what was broken off has the refusal of one of both plans
+pub broken_refusal : (definitions : Definitions) (renewal : Renewal) (o : Option Plan) → renewal.reset ≡ o → (disk later : Device)
+    (sources drained : Store (List Stored)) (calls : List Call) (refusal : Refusal)
+    → CarriesRenewal definitions renewal o disk later sources drained calls (Err refusal) → IsRenewalRefusal renewal refusal
+broken_refusal definitions renewal None is disk later sources drained calls refusal carries = inl carries.refusal
+broken_refusal definitions renewal (Some reset) is disk later sources drained calls refusal carries =
+    by carries.outcome carries.resets carries.goes_on where
+      by : (outcome : Outcome) → CarriesOut definitions (with_reset renewal reset) disk carries.middle sources carries.between carries.before outcome
+          → GoesOn definitions renewal.planned carries.middle later carries.between drained carries.behind outcome (Err refusal)
+          → IsRenewalRefusal renewal refusal
+      by (Ok done) resets goes_on = inl goes_on.refusal
+      by (Err other) resets (same, same_sources, none, e) = inr (
+        reset,
+        is,
+        subst (λ (r : Refusal). IsCommitRefusal (with_reset renewal reset) r) (sym (same_err refusal other e)) resets.refusal,
+      ) where
         same_err : (a b : Refusal) → ◌≡◌ {A = Outcome} (Err a) (Err b) → a ≡ b
         same_err a b e = cc
+
+-- a refusal of one of both plans has the status of one
+refusal_status : (renewal : Renewal) (refusal : Refusal) → IsRenewalRefusal renewal refusal → IsBetween refusal.status
+refusal_status renewal refusal (inl is) = is_commit renewal.planned refusal is
+refusal_status renewal refusal (inr (reset, some, is)) = is_commit (with_reset renewal reset) refusal is
+
+-- and so has what was broken off
+pub broken_status : (definitions : Definitions) (renewal : Renewal) (disk later : Device) (sources drained : Store (List Stored))
+    (calls : List Call) (refusal : Refusal)
+    → CarriesRenewal definitions renewal renewal.reset disk later sources drained calls (Err refusal) → IsBetween refusal.status
+broken_status definitions renewal disk later sources drained calls refusal carries =
+    refusal_status renewal refusal
+    (broken_refusal definitions renewal renewal.reset refl disk later sources drained calls refusal carries)
 
 module _ (request : Request) (json : Bool) (dirs : List (List ℕ)) (folders : Store Tree) (disk later : Device)
     (sources : Store (List Stored)) (out after : Output) (status : ℕ) (of_sector : IsSector request.sector) (whole : request.size % 4096 ≡ 0)
@@ -83,9 +101,10 @@ module _ (request : Request) (json : Bool) (dirs : List (List ℕ)) (folders : S
         renews calls carries) tells
     committed read asked renewal renews fits (Err refusal) carries tells =
         between (subst IsBetween (sym tells.answers)
-        (broken_status definitions renewal renewal.reset read later asked drained calls refusal carries)) definitions renewal are
+        (broken_status definitions renewal read later asked drained calls refusal carries)) definitions renewal are
         (carried_some request definitions disk opened read later sources asked drained renewal of_sector whole most are.formed fits first synced
-        renews calls (Err refusal) carries) refusal tells
+        renews calls (Err refusal) carries) refusal
+        (broken_refusal definitions renewal renewal.reset refl read later asked drained calls refusal carries) tells
 
     made_by : (read : Device) (asked : Store (List Stored)) (answer : Result Renewal Refusal)
         → RenewsImage request definitions.list opened read sources asked answer → MadeFirst disk.calls (Sync ∷ []) read.calls

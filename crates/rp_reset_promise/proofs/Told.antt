@@ -357,7 +357,7 @@ module _ (request : Request) (json : Bool) (dirs : List (List ℕ)) (folders rea
           by_finish definitions renewal (told_all (Ok renewal) (at_first (Ok renewal) tt renews))
           (subst (λ (b : Bool). Finishes out after (renewal_report json definitions renewal b) status) (sym is_applied) finishes)
       committed renewal calls (Err refusal) is_applied renews carries refuses =
-          by_between (subst IsBetween (sym refuses.answers) (broken_status definitions renewal renewal.reset mid later asked drained calls refusal carries))
+          by_between (subst IsBetween (sym refuses.answers) (broken_status definitions renewal mid later asked drained calls refusal carries))
 
       apply_told : (calls : List Call) (answer : Result Renewal Refusal) → applied ≡ true
           → RenewsImage request definitions.list opened mid sources asked answer

@@ -1,5 +1,6 @@
 -- What a run of `apply` with a factory reset made of an image, by its exit status.
-use Rattle.std.specs.Prelude.{ℕ, List, Bool, true, Option, Some, None}
+use Rattle.std.specs.Prelude.{ℕ, ◌≡◌, ◌⊎◌, List, Bool, true, Option, Some, None, Ok}
+use Rattle.rp_apply_command.specs.Applies.{IsCommitRefusal}
 use Rattle.rp_apply_command.specs.Ends.{AreRead, CarriesAll, CarriesSome, IsBefore, IsBehind, IsBetween, LeavesAll}
 use Rattle.rp_base.specs.declared.plan.Plan.{Plan}
 use Rattle.rp_defs.specs.declared.definition.Definition.{Definition}
@@ -12,15 +13,21 @@ use Rattle.rp_outcome.specs.Output.{Output, Finishes, Refuses}
 use Rattle.rp_outcome.specs.Refusals.{Refusal}
 use Rattle.rp_outcome.specs.Store.{Store}
 use Rattle.rp_planned.specs.declared.request.Request.{Request}
+use Rattle.rp_reset.specs.Reset.{reset as reset_of}
+use Rattle.rp_reset_command.specs.Renewing.{with_reset}
 use Rattle.rp_reset_command.specs.Reports.{renewal_report}
 use Rattle.rp_reset_command.specs.declared.renewal.Renewal.{Renewal}
 use Rattle.rp_reset_ends.specs.Ends.{CarriesAllOfBoth, CarriesSomeOfBoth}
+
+-- the old table has no row that a reset takes out
+abbrev pub ResetsNothing : List Definition → Renewal → Type 0
+ResetsNothing list renewal = reset_of renewal.planned.seen list ≡ Ok None
 
 -- what is planned was carried out, or the first of its calls behind a sync: those of both plans, or, where no row is taken out, those of
 -- one
 abbrev pub CarriesSomeBy : Request → List Definition → Device → Device → Store (List Stored) → Renewal → Option Plan → Type 0
 CarriesSomeBy request list disk later sources renewal None =
-    (calls : List Call) × CarriesSome request list disk later sources renewal.planned calls
+    ResetsNothing list renewal × (calls : List Call) × CarriesSome request list disk later sources renewal.planned calls
 CarriesSomeBy request list disk later sources renewal (Some reset) =
     (before : List Call) × (behind : List Call)
     × CarriesSomeOfBoth request list disk later sources renewal.seen reset renewal.planned.plan before behind
@@ -31,13 +38,18 @@ CarriesSomeRenewed request list disk later sources renewal = CarriesSomeBy reque
 -- all of it was carried out
 abbrev pub CarriesAllBy : Request → List Definition → Device → Device → Store (List Stored) → Renewal → Option Plan → Type 0
 CarriesAllBy request list disk later sources renewal None =
-    (calls : List Call) × CarriesAll request list disk later sources renewal.planned calls
+    ResetsNothing list renewal × (calls : List Call) × CarriesAll request list disk later sources renewal.planned calls
 CarriesAllBy request list disk later sources renewal (Some reset) =
     (before : List Call) × (behind : List Call)
     × CarriesAllOfBoth request list disk later sources renewal.seen reset renewal.planned.plan before behind
 
 abbrev pub CarriesAllRenewed : Request → List Definition → Device → Device → Store (List Stored) → Renewal → Type 0
 CarriesAllRenewed request list disk later sources renewal = CarriesAllBy request list disk later sources renewal renewal.reset
+
+-- a refusal while one of both plans is carried out
+abbrev pub IsRenewalRefusal : Renewal → Refusal → Type 0
+IsRenewalRefusal renewal refusal = IsCommitRefusal renewal.planned refusal
+    ⊎ ((reset : Plan) × (renewal.reset ≡ Some reset) × IsCommitRefusal (with_reset renewal reset) refusal)
 
 -- how a run of `apply` with a factory reset ends: refused before anything was carried out; with all carried out and told, as far as the
 -- sink took it; or broken off, before anything was carried out or on the way
@@ -50,5 +62,5 @@ pub data ResetEnds (request : Request) (json : Bool) (dirs : List (List ℕ)) (f
       → ResetEnds request json dirs folders disk later sources out after status
   broken : IsBetween status → LeavesAll disk later → ResetEnds request json dirs folders disk later sources out after status
   between : IsBetween status → (definitions : Definitions) (renewal : Renewal) → AreRead request dirs folders definitions
-      → CarriesSomeRenewed request definitions.list disk later sources renewal → (refusal : Refusal)
+      → CarriesSomeRenewed request definitions.list disk later sources renewal → (refusal : Refusal) → IsRenewalRefusal renewal refusal
       → Refuses out after refusal status → ResetEnds request json dirs folders disk later sources out after status
