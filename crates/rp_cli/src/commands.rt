@@ -55,14 +55,15 @@ pub fn run<D: Disk, F: Folders, S: Sources, K: Sink>(
 ) -> u8
     // The status is 2 exactly where the words aren't canonical.
     ensures words { (result ≡ 2) ↔ IsErr (line_of (map string_bytes words.now)) }
-    // Where they aren't, `error 2 words` is printed, and nothing is asked of folders, disk and sources.
+    // Where they aren't, `error 2 words` is printed, and folders, disk and sources are as before (a read that succeeds leaves no trace).
     ensures refused { IsErr (line_of (map string_bytes words.now))
         → Refuses (output K.told K.faults out.old) (output K.told K.faults out.new) words_refusal result
         × AreUnasked
         (store F.told F.faults F.strays folders.old) (store F.told F.faults F.strays folders.new)
         (device D.first D.calls D.faults D.strays disk.old) (device D.first D.calls D.faults D.strays disk.new)
         (store S.told S.faults S.strays sources.old) (store S.told S.faults S.strays sources.new) }
-    // `show` reads the table and prints it, or the line of the first refusal; folders and sources aren't asked.
+    // `show` reads the table and prints it, or the line of the first refusal; folders and sources are as before (a read that succeeds
+    // leaves no trace).
     ensures show { IfOk (line_of (map string_bytes words.now)) (λ line. line.command ≡ Command.Show
         → Shows line.sector line.json
         (device D.first D.calls D.faults D.strays disk.old) (device D.first D.calls D.faults D.strays disk.new)
@@ -107,7 +108,7 @@ pub fn run<D: Disk, F: Folders, S: Sources, K: Sink>(
         (store S.told S.faults S.strays sources.old) (store S.told S.faults S.strays sources.new)
         (output K.told K.faults out.old) (output K.told K.faults out.new) result) }
     // `make` makes the input of its number, syncs the disk, grows the image to 1 GiB, carries out what is planned for it, looks for what it
-    // differs in and prints a summary; folders and sources that are handed in aren't asked.
+    // differs in and prints a summary; folders and sources that are handed in are as before (a read that succeeds leaves no trace).
     ensures make { IfOk (line_of (map string_bytes words.now)) (λ line. line.command ≡ Command.Make
         → Makes line.number
         (device D.first D.calls D.faults D.strays disk.old) (device D.first D.calls D.faults D.strays disk.new)
@@ -123,7 +124,8 @@ pub fn run<D: Disk, F: Folders, S: Sources, K: Sink>(
         × AreAsBefore
         (store F.told F.faults F.strays folders.old) (store F.told F.faults F.strays folders.new)
         (store S.told S.faults S.strays sources.old) (store S.told S.faults S.strays sources.new)) }
-    // `policy` prints the policy's canonical text and the flags of each designator; nothing is asked of folders, disk and sources.
+    // `policy` prints the policy's canonical text and the flags of each designator; folders, disk and sources are as before (a read that
+    // succeeds leaves no trace).
     ensures policy { IfOk (line_of (map string_bytes words.now)) (λ line. line.command ≡ Command.Policy
         → PrintsPolicy (text_in Opt.Policy (map string_bytes words.now))
         (output K.told K.faults out.old) (output K.told K.faults out.new) result
@@ -131,7 +133,8 @@ pub fn run<D: Disk, F: Folders, S: Sources, K: Sink>(
         (store F.told F.faults F.strays folders.old) (store F.told F.faults F.strays folders.new)
         (device D.first D.calls D.faults D.strays disk.old) (device D.first D.calls D.faults D.strays disk.new)
         (store S.told S.faults S.strays sources.old) (store S.told S.faults S.strays sources.new)) }
-    // `compare` prints whether one policy allows what the other denies, and what; nothing is asked of folders, disk and sources.
+    // `compare` prints whether one policy allows what the other denies, and what; folders, disk and sources are as before (a read that
+    // succeeds leaves no trace).
     ensures compare { IfOk (line_of (map string_bytes words.now)) (λ line. line.command ≡ Command.Compare
         → Compares (text_in Opt.Policy (map string_bytes words.now)) (text_in Opt.Against (map string_bytes words.now))
         (output K.told K.faults out.old) (output K.told K.faults out.new) result

@@ -224,7 +224,7 @@ unfolding command_in_help commands command_text options
 help_on_compare = refl
 
 help_on_check : command_in_help (codes "check")
-    ≡ codes "repart check tells whether the image is as apply leaves it:\n\n    repart check\n        --definitions=FOLDER[:FOLDER...]\n"
+    ≡ codes "repart check tells whether table and hash trees are as apply leaves them:\n\n    repart check\n        --definitions=FOLDER[:FOLDER...]\n"
     ++ codes "        --seed=UUID\n        [--arch=x86-64|arm64]\n        [--sector-size=512|4096]\n        IMAGE\n\n"
 unfolding command_in_help commands command_text options
 help_on_check = refl

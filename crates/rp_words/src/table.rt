@@ -81,7 +81,7 @@ pub(crate) static COMMANDS: [CommandEntry; 8] = [
     ("apply", CommandRow { command: Command::Apply, image: true },
         "changes the image as plan prints it"),
     ("check", CommandRow { command: Command::Check, image: true },
-        "tells whether the image is as apply leaves it"),
+        "tells whether table and hash trees are as apply leaves them"),
     ("dissect", CommandRow { command: Command::Dissect, image: true },
         "prints which partitions an image policy lets be used"),
     ("policy", CommandRow { command: Command::Policy, image: false },
@@ -126,13 +126,13 @@ pub(crate) static OPTIONS: [OptionEntry; 11] = [
         "whether partitions with FactoryReset=yes are made anew"),
     ("policy", "*", "POLICY", OptionRow { option: Opt::Policy,
         show: NEVER, plan: NEVER, apply: NEVER, check: NEVER, dissect: MAY, policy: MUST, make: NEVER, compare: MUST },
-        "an image policy, see systemd.image-policy(7)"),
+        "a policy, see image-policy(7); dissect may lack it"),
     ("against", "", "POLICY", OptionRow { option: Opt::Against,
         show: NEVER, plan: NEVER, apply: NEVER, check: NEVER, dissect: NEVER, policy: NEVER, make: NEVER, compare: MUST },
         "the policy that it is compared with"),
     ("number", "", "1...100", OptionRow { option: Opt::Number,
         show: NEVER, plan: NEVER, apply: NEVER, check: NEVER, dissect: NEVER, policy: NEVER, make: MUST, compare: NEVER },
-        "the number of partitions"),
+        "the number that the image is made from"),
 ];
 
 /// The commands by name.
