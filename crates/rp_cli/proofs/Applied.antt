@@ -4,10 +4,10 @@ use Rattle.std.specs.Prelude.{length}
 use Rattle.rp_apply_command.proofs.Ended.{ends_idle, ends_so}
 use Rattle.rp_apply_command.proofs.Moments.{leaves_all}
 use Rattle.rp_apply_command.proofs.Runs.{made_none}
-use Rattle.rp_apply_command.specs.Ends.{Ends, IsBefore, IsBetween, IsGoalOf, LeavesAll, StopsExactly, StopsSafely}
+use Rattle.rp_apply_command.specs.Ends.{Ends, IsBefore, IsBehind, IsBetween, IsGoalOf, LeavesAll, StopsExactly, StopsSafely}
 use Rattle.rp_apply_command.specs.Ends.Ends.{before, behind, broken, between}
 use Rattle.rp_base.specs.Geometry.{IsSector}
-use Rattle.rp_cli.specs.Applied.{AppliesAsked, IsApplied, IsDone, IsRefusedBefore, IsSafeThroughout, WritesNothingIdle}
+use Rattle.rp_cli.specs.Applied.{AppliesAsked, IsApplied, IsSafeThroughout, WritesNothingIdle}
 use Rattle.rp_defs.specs.declared.definition.Definitions.{Definitions}
 use Rattle.rp_disk.specs.History.{held}
 use Rattle.rp_disk.specs.Made.{history_of}
@@ -27,7 +27,7 @@ use Rattle.rp_reading.specs.Reading.{definitions_in}
 use Rattle.rp_words.specs.Values.{IsSize}
 
 -- a status of a run that is done is none at which nothing was carried out, or not all
-pub done_before : {P : Type 0} (n : ℕ) → IsBefore n → IsDone n → P
+pub done_before : {P : Type 0} (n : ℕ) → IsBefore n → IsBehind n → P
 done_before n (inl a) (inl b) = absurd (omega (arith, a, b))
 done_before n (inl a) (inr b) = absurd (omega (arith, a, b))
 done_before n (inr (inl a)) (inl b) = absurd (omega (arith, a, b))
@@ -37,7 +37,7 @@ done_before n (inr (inr (inl a))) (inr b) = absurd (omega (arith, a, b))
 done_before n (inr (inr (inr a))) (inl b) = absurd (omega (arith, a, b))
 done_before n (inr (inr (inr a))) (inr b) = absurd (omega (arith, a, b))
 
-pub done_between : {P : Type 0} (n : ℕ) → IsBetween n → IsDone n → P
+pub done_between : {P : Type 0} (n : ℕ) → IsBetween n → IsBehind n → P
 done_between n (inl a) (inl b) = absurd (omega (arith, a, b))
 done_between n (inl a) (inr b) = absurd (omega (arith, a, b))
 done_between n (inr (inl a)) (inl b) = absurd (omega (arith, a, b))
@@ -93,7 +93,7 @@ module _ (request : Request) (json : Bool) (dirs : List (List ℕ)) (folders rea
     of_exact definitions planned calls (Some bytes) None stops = tt
     of_exact definitions planned calls (Some bytes) (Some files) stops = stops.goal
 
-    pub apply_applied : Asked → IsDone status → IsApplied request dirs folders disk later sources
+    pub apply_applied : Asked → IsBehind status → IsApplied request dirs folders disk later sources
     apply_applied (inr (same, refuses)) is = done_before status (inr (inr (inr refuses.answers))) is
     apply_applied (inl applies) is =
         by_end (ends_so request json dirs folders read disk later sources drained out after status sector size.whole size.most applies) where
@@ -121,7 +121,7 @@ module _ (request : Request) (json : Bool) (dirs : List (List ℕ)) (folders rea
           by_end (behind at definitions planned calls are all finishes) = inr (definitions, planned, calls, are, all.some)
           by_end (between at definitions planned calls are some refusal cause refuses) = inr (definitions, planned, calls, are, some)
 
-    pub apply_refused : Asked → IsRefusedBefore status → LeavesAll disk later
+    pub apply_refused : Asked → IsBefore status → LeavesAll disk later
     apply_refused (inr (same, refuses)) is = unasked same.1
     apply_refused (inl applies) is =
         by_end (ends_so request json dirs folders read disk later sources drained out after status sector size.whole size.most applies) where

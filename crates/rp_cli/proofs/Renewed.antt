@@ -2,11 +2,10 @@
 use Rattle.std.proofs.Common.{ℕ, ◌≡◌, List, [], ◌∷◌, Bool, Option, Some, None, sym, subst, inl, inr, arith}
 use Rattle.rp_apply_command.proofs.Moments.{leaves_all}
 use Rattle.rp_apply_command.proofs.Runs.{made_none}
-use Rattle.rp_apply_command.specs.Ends.{LeavesAll}
+use Rattle.rp_apply_command.specs.Ends.{IsBefore, IsBehind, LeavesAll}
 use Rattle.rp_base.specs.Geometry.{IsSector}
 use Rattle.rp_cli.proofs.Applied.{before_between, done_before, done_between}
 use Rattle.rp_cli.proofs.Promised.{clash, not_asked, plan_causes, plan_files, plan_words, unasked_causes}
-use Rattle.rp_cli.specs.Applied.{IsDone, IsRefusedBefore}
 use Rattle.rp_cli.specs.Asked.{PlansAsked}
 use Rattle.rp_cli.specs.Holds.{Holds}
 use Rattle.rp_cli.specs.Resetting.{AppliesResetAsked, IsRenewed, IsRenewedSafely, PlansResetAsked}
@@ -40,7 +39,7 @@ unasked_holds folders read disk later sources drained out after status same ten 
 -- where all was carried out, its first calls were
 some_of : (request : Request) (list : List Definition) (disk later : Device) (sources : Store (List Stored)) (renewal : Renewal) (o : Option Plan)
     → CarriesAllBy request list disk later sources renewal o → CarriesSomeBy request list disk later sources renewal o
-some_of request list disk later sources renewal None (calls, all) = (calls, all.some)
+some_of request list disk later sources renewal None (none, calls, all) = (none, calls, all.some)
 some_of request list disk later sources renewal (Some reset) (first, second, all) = (first, second, all.some)
 
 module _ (request : Request) (json : Bool) (dirs : List (List ℕ)) (folders read : Store Tree) (disk later : Device)
@@ -82,14 +81,14 @@ module _ (request : Request) (json : Bool) (dirs : List (List ℕ)) (folders rea
     unasked : later ≡ disk → LeavesAll disk later
     unasked same = leaves_all disk later (subst (λ (d : Device). MadeFirst disk.calls (Sync ∷ []) d.calls) (sym same) (made_none disk.calls (Sync ∷ [])))
 
-    pub reset_applied : Asked → IsDone status → IsRenewed request dirs folders disk later sources
+    pub reset_applied : Asked → IsBehind status → IsRenewed request dirs folders disk later sources
     reset_applied (inr (same, refuses)) is = done_before status (inr (inr (inr refuses.answers))) is
     reset_applied (inl applies) is =
         by_end (ends_so request json dirs folders read disk later sources drained out after status sector size.whole size.most applies) where
           by_end : End → IsRenewed request dirs folders disk later sources
           by_end (before at leaves) = done_before status at is
           by_end (broken at leaves) = done_between status at is
-          by_end (between at definitions renewal are some refusal refuses) = done_between status at is
+          by_end (between at definitions renewal are some refusal cause refuses) = done_between status at is
           by_end (behind at definitions renewal are all finishes) = record {
             definitions = definitions;
             renewal = renewal;
@@ -97,7 +96,7 @@ module _ (request : Request) (json : Bool) (dirs : List (List ℕ)) (folders rea
             carried = all;
           }
 
-    pub reset_refused : Asked → IsRefusedBefore status → LeavesAll disk later
+    pub reset_refused : Asked → IsBefore status → LeavesAll disk later
     reset_refused (inr (same, refuses)) is = unasked same.1
     reset_refused (inl applies) is =
         by_end (ends_so request json dirs folders read disk later sources drained out after status sector size.whole size.most applies) where
@@ -105,7 +104,7 @@ module _ (request : Request) (json : Bool) (dirs : List (List ℕ)) (folders rea
           by_end (before at leaves) = leaves
           by_end (broken at leaves) = leaves
           by_end (behind at definitions renewal are all finishes) = done_before status is at
-          by_end (between at definitions renewal are some refusal refuses) = before_between status at is
+          by_end (between at definitions renewal are some refusal cause refuses) = before_between status at is
 
     pub reset_safe : Asked → IsRenewedSafely request dirs folders disk later sources
     reset_safe (inr (same, refuses)) = inl (unasked same.1)
@@ -116,4 +115,4 @@ module _ (request : Request) (json : Bool) (dirs : List (List ℕ)) (folders rea
           by_end (broken at leaves) = inl leaves
           by_end (behind at definitions renewal are all finishes) =
               inr (definitions, renewal, are, some_of request definitions.list disk later sources renewal renewal.reset all)
-          by_end (between at definitions renewal are some refusal refuses) = inr (definitions, renewal, are, some)
+          by_end (between at definitions renewal are some refusal cause refuses) = inr (definitions, renewal, are, some)

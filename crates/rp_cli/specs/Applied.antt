@@ -2,7 +2,7 @@
 use Rattle.std.specs.Prelude.{ℕ, ◌≡◌, ◌≤◌, ◌⊎◌, List, [], ◌∷◌, Bool, IfSome, Ok, length}
 use Rattle.rp_apply_command.specs.Applies.{Applies}
 use Rattle.rp_apply_command.specs.Ends.{AreRead, AtTheEnd, CarriesSome, Given, IsGoalOf, LeavesAll}
-use Rattle.rp_cli.specs.Asked.{AreUnasked}
+use Rattle.rp_cli.specs.Asked.{AreAllAsBefore}
 use Rattle.rp_defs.specs.declared.definition.Definitions.{Definitions}
 use Rattle.rp_disk.specs.History.{held}
 use Rattle.rp_disk.specs.Made.{history_of}
@@ -25,12 +25,12 @@ use Rattle.rp_reading.specs.Reading.{definitions_in}
 use Rattle.rp_steps.specs.Contents.{contents}
 use Rattle.rp_stops.specs.Rows.{grown}
 
--- what `apply` does, or there was no memory for the paths of the folders, and nothing was asked
+-- what `apply` does, or there was no memory for the paths of the folders, and all is as before
 abbrev pub AppliesAsked : Request → Bool → List (List ℕ) → Store Tree → Store Tree → Device → Device → Store (List Stored)
     → Store (List Stored) → Output → Output → ℕ → Type 0
 AppliesAsked request json dirs folders read disk later sources drained out after status =
     Applies request json dirs folders read disk later sources drained out after status
-    ⊎ (AreUnasked folders read disk later sources drained × Refuses out after memory_refusal status)
+    ⊎ (AreAllAsBefore folders read disk later sources drained × Refuses out after memory_refusal status)
 
 -- the image's table is the goal of its old table and the definitions, by what was told of the sources in this run, every old
 -- partition keeps its place and bytes, and a second run has nothing to do where none was dropped; where the sources tell, the goal
@@ -49,10 +49,6 @@ pub record IsApplied (request : Request) (dirs : List (List ℕ)) (folders : Sto
       (IsDoneWith request.sector (held (history_of bytes disk.calls)) planned.seen definitions.list request.seed planned.plan
       (contents planned.plan (Given definitions.list files) (grown (held (history_of bytes disk.calls)) planned.plan)))))
 
--- the status of a run that is done, though its text may be cut
-abbrev pub IsDone : ℕ → Type 0
-IsDone status = (status ≡ exit.done) ⊎ (status ≡ exit.sink)
-
 -- stopped at any moment, the image shows the old table or the goal with all that, provided that no torn header passes its checksum
 -- by chance: either nothing was carried out, and each image that a stop might leave is the old one, or could have been left when it
 -- began, or the first calls of a plan were made that is the goal
@@ -61,10 +57,6 @@ IsSafeThroughout request dirs folders disk later sources =
     LeavesAll disk later
     ⊎ ((definitions : Definitions) × (planned : Planned) × (calls : List Call) × AreRead request dirs folders definitions
     × CarriesSome request definitions.list disk later sources planned calls)
-
--- a refusal before the plan is carried out
-abbrev pub IsRefusedBefore : ℕ → Type 0
-IsRefusedBefore status = (status ≡ exit.definitions) ⊎ (status ≡ exit.image) ⊎ (status ≡ exit.demand) ⊎ (status ≡ exit.memory)
 
 -- a second run writes nothing: where an image is idle for the definitions and isn't to grow, no call is made but the sync
 abbrev pub WritesNothingIdle : Request → List (List ℕ) → Store Tree → Device → Device → Type 0

@@ -17,7 +17,7 @@ use Rattle.rp_words.specs.declared.line.Line.{Line}
 abbrev pub request_of : Line → Request
 request_of line = record { seed = line.seed; arch = line.arch; empty = line.empty; size = line.size; sector = line.sector }
 
--- what `plan` does, or there was no memory for the paths of the folders, and nothing was asked
+-- what `plan` does, or there was no memory for the paths of the folders, and all is as before
 abbrev pub PlansAsked : Request → Bool → List (List ℕ) → Store Tree → Store Tree → Device → Device → Store (List Stored)
     → Store (List Stored)
     → Output → Output → ℕ → Type 0
@@ -25,17 +25,17 @@ PlansAsked request json dirs folders read disk later sources drained out after s
     Plans request json dirs folders read disk later sources drained out after status
     ⊎ ((read ≡ folders) × (later ≡ disk) × (drained ≡ sources) × Refuses out after memory_refusal status)
 
--- folders and sources are as before: nothing was asked of them
+-- folders and sources are as before, but for reads that succeeded, which leave no trace
 abbrev pub AreAsBefore : Store Tree → Store Tree → Store (List Stored) → Store (List Stored) → Type 0
 AreAsBefore folders read sources drained = (read ≡ folders) × (drained ≡ sources)
 
 -- the disk too
-abbrev pub AreUnasked : Store Tree → Store Tree → Device → Device → Store (List Stored) → Store (List Stored) → Type 0
-AreUnasked folders read disk later sources drained = (read ≡ folders) × (later ≡ disk) × (drained ≡ sources)
+abbrev pub AreAllAsBefore : Store Tree → Store Tree → Device → Device → Store (List Stored) → Store (List Stored) → Type 0
+AreAllAsBefore folders read disk later sources drained = (read ≡ folders) × (later ≡ disk) × (drained ≡ sources)
 
--- what `check` does, or there was no memory for the paths of the folders, and nothing was asked
+-- what `check` does, or there was no memory for the paths of the folders, and all is as before
 abbrev pub ChecksAsked : Guid → Arch → ℕ → List (List ℕ) → Store Tree → Store Tree → Device → Device → Store (List Stored)
     → Store (List Stored) → Output → Output → ℕ → Type 0
 ChecksAsked seed arch sector dirs folders read disk later sources drained out after status =
     Checks seed arch sector dirs folders read disk later sources drained out after status
-    ⊎ (AreUnasked folders read disk later sources drained × Refuses out after memory_refusal status)
+    ⊎ (AreAllAsBefore folders read disk later sources drained × Refuses out after memory_refusal status)

@@ -1,7 +1,7 @@
 -- What a line asks `plan` and `apply` for with a factory reset, and what they promise then.
 use Rattle.std.specs.Prelude.{ℕ, ◌⊎◌, List, Bool}
 use Rattle.rp_apply_command.specs.Ends.{AreRead, LeavesAll}
-use Rattle.rp_cli.specs.Asked.{AreUnasked}
+use Rattle.rp_cli.specs.Asked.{AreAllAsBefore}
 use Rattle.rp_defs.specs.declared.definition.Definitions.{Definitions}
 use Rattle.rp_io.specs.Files.{Tree}
 use Rattle.rp_io.specs.declared.stored.Stored.{Stored}
@@ -15,19 +15,19 @@ use Rattle.rp_reset_command.specs.Plans.{PlansReset}
 use Rattle.rp_reset_command.specs.declared.renewal.Renewal.{Renewal}
 use Rattle.rp_reset_promise.specs.Ends.{CarriesAllRenewed, CarriesSomeRenewed}
 
--- what `plan` does, or there was no memory for the paths of the folders, and nothing was asked
+-- what `plan` does, or there was no memory for the paths of the folders, and all is as before
 abbrev pub PlansResetAsked : Request → Bool → List (List ℕ) → Store Tree → Store Tree → Device → Device → Store (List Stored)
     → Store (List Stored) → Output → Output → ℕ → Type 0
 PlansResetAsked request json dirs folders read disk later sources drained out after status =
     PlansReset request json dirs folders read disk later sources drained out after status
-    ⊎ (AreUnasked folders read disk later sources drained × Refuses out after memory_refusal status)
+    ⊎ (AreAllAsBefore folders read disk later sources drained × Refuses out after memory_refusal status)
 
 -- what `apply` does, or there was no memory for that
 abbrev pub AppliesResetAsked : Request → Bool → List (List ℕ) → Store Tree → Store Tree → Device → Device → Store (List Stored)
     → Store (List Stored) → Output → Output → ℕ → Type 0
 AppliesResetAsked request json dirs folders read disk later sources drained out after status =
     AppliesReset request json dirs folders read disk later sources drained out after status
-    ⊎ (AreUnasked folders read disk later sources drained × Refuses out after memory_refusal status)
+    ⊎ (AreAllAsBefore folders read disk later sources drained × Refuses out after memory_refusal status)
 
 -- the image's table is the goal of its reset table and the definitions, every partition of the reset table keeps its place and bytes, new
 -- ones hold their contents, and a second run without reset has nothing to do where none was dropped; where no row is taken out, the

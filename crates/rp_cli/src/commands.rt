@@ -1,9 +1,9 @@
 ghost use Rattle.std.specs.Prelude.{◌≤◌, ◌≡◌, ◌≢◌, ◌↔◌, IfOk, IsErr, false, map, string_bytes, true};
-ghost use Rattle.rp_apply_command.specs.Ends.{LeavesAll};
+ghost use Rattle.rp_apply_command.specs.Ends.{IsBefore, IsBehind, LeavesAll};
 ghost use Rattle.rp_base.specs.Geometry.{IsSector};
-ghost use Rattle.rp_cli.specs.Applied.{AppliesAsked, IsApplied, IsDone, IsRefusedBefore, IsSafeThroughout, WritesNothingIdle};
+ghost use Rattle.rp_cli.specs.Applied.{AppliesAsked, IsApplied, IsSafeThroughout, WritesNothingIdle};
 ghost use Rattle.rp_cli.specs.Holds.{Holds};
-ghost use Rattle.rp_cli.specs.Asked.{AreAsBefore, AreUnasked, ChecksAsked, PlansAsked, request_of as request_of_line};
+ghost use Rattle.rp_cli.specs.Asked.{AreAsBefore, AreAllAsBefore, ChecksAsked, PlansAsked, request_of as request_of_line};
 ghost use Rattle.rp_cli.specs.Resetting.{AppliesResetAsked, IsRenewed, IsRenewedSafely, PlansResetAsked};
 ghost use Rattle.rp_dissect_command.specs.Dissects.{Dissects};
 ghost use Rattle.rp_make_command.specs.Ends.{MakeEnds};
@@ -19,8 +19,7 @@ ghost use Rattle.rp_show.specs.Shows.{Shows};
 ghost use Rattle.rp_words.specs.Line.{line_of, text_in};
 ghost use Rattle.rp_words.specs.Values.{IsSize, paths_of};
 
-use crate::resetting::{apply_by_line, plan_by_line};
-use rp_apply_command::apply;
+use crate::planning::{apply_by_line, plan_by_line};
 use rp_base::Memory;
 use rp_check_command::check;
 use rp_disk::Disk;
@@ -28,8 +27,6 @@ use rp_dissect_command::dissect;
 use rp_io::{Folders, Sink, Sources};
 use rp_make_command::make;
 use rp_outcome::{Refusal, refuse};
-use rp_plan_command::plan;
-use rp_planned::Request;
 use rp_policy_command::{compare, policy};
 use rp_show::show;
 use rp_words::{Command, Line, Opt, read_line, read_paths, text_of};
@@ -58,7 +55,7 @@ pub fn run<D: Disk, F: Folders, S: Sources, K: Sink>(
     // Where they aren't, `error 2 words` is printed, and folders, disk and sources are as before (a read that succeeds leaves no trace).
     ensures refused { IsErr (line_of (map string_bytes words.now))
         → Refuses (output K.told K.faults out.old) (output K.told K.faults out.new) words_refusal result
-        × AreUnasked
+        × AreAllAsBefore
         (store F.told F.faults F.strays folders.old) (store F.told F.faults F.strays folders.new)
         (device D.first D.calls D.faults D.strays disk.old) (device D.first D.calls D.faults D.strays disk.new)
         (store S.told S.faults S.strays sources.old) (store S.told S.faults S.strays sources.new) }
@@ -129,7 +126,7 @@ pub fn run<D: Disk, F: Folders, S: Sources, K: Sink>(
     ensures policy { IfOk (line_of (map string_bytes words.now)) (λ line. line.command ≡ Command.Policy
         → PrintsPolicy (text_in Opt.Policy (map string_bytes words.now))
         (output K.told K.faults out.old) (output K.told K.faults out.new) result
-        × AreUnasked
+        × AreAllAsBefore
         (store F.told F.faults F.strays folders.old) (store F.told F.faults F.strays folders.new)
         (device D.first D.calls D.faults D.strays disk.old) (device D.first D.calls D.faults D.strays disk.new)
         (store S.told S.faults S.strays sources.old) (store S.told S.faults S.strays sources.new)) }
@@ -138,7 +135,7 @@ pub fn run<D: Disk, F: Folders, S: Sources, K: Sink>(
     ensures compare { IfOk (line_of (map string_bytes words.now)) (λ line. line.command ≡ Command.Compare
         → Compares (text_in Opt.Policy (map string_bytes words.now)) (text_in Opt.Against (map string_bytes words.now))
         (output K.told K.faults out.old) (output K.told K.faults out.new) result
-        × AreUnasked
+        × AreAllAsBefore
         (store F.told F.faults F.strays folders.old) (store F.told F.faults F.strays folders.new)
         (device D.first D.calls D.faults D.strays disk.old) (device D.first D.calls D.faults D.strays disk.new)
         (store S.told S.faults S.strays sources.old) (store S.told S.faults S.strays sources.new)) }
@@ -146,7 +143,7 @@ pub fn run<D: Disk, F: Folders, S: Sources, K: Sink>(
     // What `apply` promises: where it answers 0, and at 9, the image's table is the goal of its old table and the definitions, every old
     // partition keeps its place and bytes, new ones hold their contents.
     ensures applied { IfOk (line_of (map string_bytes words.now)) (λ line. line.command ≡ Command.Apply → line.factory_reset ≡ false
-        → IsDone result
+        → IsBehind result
         → IsApplied (request_of_line line) (paths_of (text_in Opt.Definitions (map string_bytes words.now)))
         (store F.told F.faults F.strays folders.old)
         (device D.first D.calls D.faults D.strays disk.old) (device D.first D.calls D.faults D.strays disk.new)
@@ -154,7 +151,7 @@ pub fn run<D: Disk, F: Folders, S: Sources, K: Sink>(
     // With a factory reset its table is the goal of its reset table, which is the old one without the rows of definitions that say so,
     // and every partition of that keeps its place and bytes.
     ensures renewed { IfOk (line_of (map string_bytes words.now)) (λ line. line.command ≡ Command.Apply → line.factory_reset ≡ true
-        → IsDone result
+        → IsBehind result
         → IsRenewed (request_of_line line) (paths_of (text_in Opt.Definitions (map string_bytes words.now)))
         (store F.told F.faults F.strays folders.old)
         (device D.first D.calls D.faults D.strays disk.old) (device D.first D.calls D.faults D.strays disk.new)
@@ -178,7 +175,7 @@ pub fn run<D: Disk, F: Folders, S: Sources, K: Sink>(
         (device D.first D.calls D.faults D.strays disk.old) (device D.first D.calls D.faults D.strays disk.new)
         (store S.told S.faults S.strays sources.old)) }
     // What is refused for definitions, image, demand or want of memory changes nothing.
-    ensures untouched { IfOk (line_of (map string_bytes words.now)) (λ line. line.command ≡ Command.Apply → IsRefusedBefore result
+    ensures untouched { IfOk (line_of (map string_bytes words.now)) (λ line. line.command ≡ Command.Apply → IsBefore result
         → LeavesAll
         (device D.first D.calls D.faults D.strays disk.old) (device D.first D.calls D.faults D.strays disk.new)) }
 
@@ -209,125 +206,6 @@ pub fn run<D: Disk, F: Folders, S: Sources, K: Sink>(
             Command::Make => run_make(alloc, line.number, disk, out),
             Command::Compare => run_compare(alloc, words, out),
         },
-    }
-}
-
-// `plan` without a factory reset.
-pub(crate) fn run_plan<D: Disk, F: Folders, S: Sources, K: Sink>(
-    alloc: Global,
-    line: Line,
-    words: &[String],
-    disk: &mut D,
-    folders: &mut F,
-    sources: &mut S,
-    out: &mut K,
-) -> u8
-    requires sector { IsSector line.sector }
-    requires size { IsSize line.size }
-    ensures { PlansAsked (request_of_line line) line.json (paths_of (text_in Opt.Definitions (map string_bytes words.now)))
-        (store F.told F.faults F.strays folders.old) (store F.told F.faults F.strays folders.new)
-        (device D.first D.calls D.faults D.strays disk.old) (device D.first D.calls D.faults D.strays disk.new)
-        (store S.told S.faults S.strays sources.old) (store S.told S.faults S.strays sources.new)
-        (output K.told K.faults out.old) (output K.told K.faults out.new) result }
-{
-    let dirs = match read_paths(alloc, text_of(Opt::Definitions, words)) {
-        Ok(dirs) => dirs,
-        Err(Memory) => return refuse(out, &Refusal::memory()),
-    };
-    plan(
-        alloc,
-        request_of(line),
-        line.json,
-        dirs.as_slice(),
-        disk,
-        folders,
-        sources,
-        out,
-    )
-}
-
-// `apply` without a factory reset.
-pub(crate) fn run_apply<D: Disk, F: Folders, S: Sources, K: Sink>(
-    alloc: Global,
-    line: Line,
-    words: &[String],
-    disk: &mut D,
-    folders: &mut F,
-    sources: &mut S,
-    out: &mut K,
-) -> u8
-    requires sector { IsSector line.sector }
-    requires size { IsSize line.size }
-    ensures apply { AppliesAsked (request_of_line line) line.json (paths_of (text_in Opt.Definitions (map string_bytes words.now)))
-        (store F.told F.faults F.strays folders.old) (store F.told F.faults F.strays folders.new)
-        (device D.first D.calls D.faults D.strays disk.old) (device D.first D.calls D.faults D.strays disk.new)
-        (store S.told S.faults S.strays sources.old) (store S.told S.faults S.strays sources.new)
-        (output K.told K.faults out.old) (output K.told K.faults out.new) result }
-    ensures applied { IsDone result → IsApplied (request_of_line line) (paths_of (text_in Opt.Definitions (map string_bytes words.now)))
-        (store F.told F.faults F.strays folders.old)
-        (device D.first D.calls D.faults D.strays disk.old) (device D.first D.calls D.faults D.strays disk.new)
-        (store S.told S.faults S.strays sources.old) }
-    ensures second_run { WritesNothingIdle (request_of_line line) (paths_of (text_in Opt.Definitions (map string_bytes words.now)))
-        (store F.told F.faults F.strays folders.old)
-        (device D.first D.calls D.faults D.strays disk.old) (device D.first D.calls D.faults D.strays disk.new) }
-    ensures any_moment { IsSafeThroughout (request_of_line line) (paths_of (text_in Opt.Definitions (map string_bytes words.now)))
-        (store F.told F.faults F.strays folders.old)
-        (device D.first D.calls D.faults D.strays disk.old) (device D.first D.calls D.faults D.strays disk.new)
-        (store S.told S.faults S.strays sources.old) }
-    ensures untouched { IsRefusedBefore result → LeavesAll
-        (device D.first D.calls D.faults D.strays disk.old) (device D.first D.calls D.faults D.strays disk.new) }
-    ensures holds { Holds
-        (store F.told F.faults F.strays folders.old) (store F.told F.faults F.strays folders.new)
-        (device D.first D.calls D.faults D.strays disk.old) (device D.first D.calls D.faults D.strays disk.new)
-        (store S.told S.faults S.strays sources.old) (store S.told S.faults S.strays sources.new)
-        (output K.told K.faults out.old) (output K.told K.faults out.new) result }
-{
-    apply_asked(alloc, line, words, disk, folders, sources, out)
-}
-
-// The same, by its stages alone.
-fn apply_asked<D: Disk, F: Folders, S: Sources, K: Sink>(
-    alloc: Global,
-    line: Line,
-    words: &[String],
-    disk: &mut D,
-    folders: &mut F,
-    sources: &mut S,
-    out: &mut K,
-) -> u8
-    requires sector { IsSector line.sector }
-    requires size { IsSize line.size }
-    ensures { AppliesAsked (request_of_line line) line.json (paths_of (text_in Opt.Definitions (map string_bytes words.now)))
-        (store F.told F.faults F.strays folders.old) (store F.told F.faults F.strays folders.new)
-        (device D.first D.calls D.faults D.strays disk.old) (device D.first D.calls D.faults D.strays disk.new)
-        (store S.told S.faults S.strays sources.old) (store S.told S.faults S.strays sources.new)
-        (output K.told K.faults out.old) (output K.told K.faults out.new) result }
-{
-    let dirs = match read_paths(alloc, text_of(Opt::Definitions, words)) {
-        Ok(dirs) => dirs,
-        Err(Memory) => return refuse(out, &Refusal::memory()),
-    };
-    apply(
-        alloc,
-        request_of(line),
-        line.json,
-        dirs.as_slice(),
-        disk,
-        folders,
-        sources,
-        out,
-    )
-}
-
-pub(crate) fn request_of(line: Line) -> Request
-    ensures { result ≡ request_of_line line }
-{
-    Request {
-        seed: line.seed,
-        arch: line.arch,
-        empty: line.empty,
-        size: line.size,
-        sector: line.sector,
     }
 }
 

@@ -2,6 +2,6 @@
 #![tactic(auto)]
 
 mod commands;
-mod resetting;
+mod planning;
 
 pub use commands::run;

@@ -9,7 +9,7 @@ use Rattle.rp_outcome.specs.Store.{store}
 use Rattle.rp_words.specs.Line.{text_in}
 use Rattle.rp_words.specs.Values.{paths_of}
 use Rattle.rp_words.specs.declared.table.Opt.TheVariants.{Definitions}
-use Rattle.rp_cli.proofs.commands.run_apply.Goals as goal
+use Rattle.rp_cli.proofs.planning.run_apply.Goals as goal
 
 pub returns-clause-applied : goal.returns-clause-applied
 returns-clause-applied g c =

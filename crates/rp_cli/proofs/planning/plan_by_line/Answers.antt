@@ -8,7 +8,7 @@ use Rattle.rp_outcome.specs.Store.{store}
 use Rattle.rp_words.specs.Line.{text_in}
 use Rattle.rp_words.specs.Values.{paths_of}
 use Rattle.rp_words.specs.declared.table.Opt.TheVariants.{Definitions}
-use Rattle.rp_cli.proofs.resetting.plan_by_line.Goals as goal
+use Rattle.rp_cli.proofs.planning.plan_by_line.Goals as goal
 
 pub returns-then-line-clause-holds : goal.returns-then-line-clause-holds
 returns-then-line-clause-holds g c =

@@ -8,7 +8,7 @@ use Rattle.rp_outcome.specs.Store.{store}
 use Rattle.rp_words.specs.Line.{text_in}
 use Rattle.rp_words.specs.Values.{paths_of}
 use Rattle.rp_words.specs.declared.table.Opt.TheVariants.{Definitions}
-use Rattle.rp_cli.proofs.resetting.run_apply_reset.Goals as goal
+use Rattle.rp_cli.proofs.planning.run_apply_reset.Goals as goal
 
 pub returns-clause-renewed : goal.returns-clause-renewed
 returns-clause-renewed g c =
