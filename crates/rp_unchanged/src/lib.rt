@@ -1,0 +1,6 @@
+//! What is planned again for an image on which a goal was carried out, and that the image differs in nothing from it: laws alone.
+#![tactic(auto)]
+
+mod law;
+
+pub use law::a_final_image_is_seen_as_planned;
