@@ -3,4 +3,4 @@
 
 mod law;
 
-pub use law::a_final_image_is_seen_as_planned;
+pub use law::{a_final_image_is_seen_as_planned, a_finished_pair_has_nothing_bad};
