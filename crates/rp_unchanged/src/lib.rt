@@ -3,4 +3,7 @@
 
 mod law;
 
-pub use law::{a_final_image_is_seen_as_planned, a_finished_pair_has_nothing_bad};
+pub use law::{
+    a_final_image_is_seen_as_planned, a_finished_image_differs_in_nothing,
+    a_finished_pair_has_nothing_bad, goals_name_pairs_by_their_roots,
+};
