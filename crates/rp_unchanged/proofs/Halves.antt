@@ -5,9 +5,8 @@ use Rattle.std.specs.List.{cons_option, enumerate_from, filter_map}
 use Rattle.std.specs.Option.{option_or}
 use Rattle.std.proofs.lemmas.Bool.{cases_lt, eqb-true}
 use Rattle.std.proofs.lemmas.Bool.Decides.{eqb_tells}
-use Rattle.std.proofs.lemmas.List.{get_or-append-add, get_or-map, get_or_past, length-append, length-map, take-append-drop}
+use Rattle.std.proofs.lemmas.List.{get_or_past, take-append-drop}
 use Rattle.std.proofs.lemmas.List.Elements.{All-head, All-tail}
-use Rattle.std.proofs.lemmas.List.FromFn.{get_or-enumerate_from, length-enumerate_from}
 use Rattle.std.proofs.lemmas.List.Quantifiers.{position-Some}
 use Rattle.std.proofs.lemmas.Option.{get_or_from_slice_get, slice_get-get_or, slice_get_within}
 use Rattle.std.proofs.lemmas.Slice.Eq.{bytes_eq-Decides}
@@ -39,7 +38,7 @@ use Rattle.rp_plan.proofs.Given.{places_within}
 use Rattle.rp_plan.proofs.KeptLemmas.{and_both}
 use Rattle.rp_plan.proofs.Paired.{kept_index, note_on, rank_is, slot_is}
 use Rattle.rp_plan.proofs.Parts.{IsMadeOf, made_of}
-use Rattle.rp_plan.proofs.Whole.{is_taken, new_at, new_rows, old_at, old_rows, rows_count, which, zip_at}
+use Rattle.rp_plan.proofs.Whole.{is_taken, new_at, old_at, which, zip_at}
 use Rattle.rp_plan.proofs.Written.{spots}
 use Rattle.rp_sizes.specs.Needs.{AreFactsOn, is_new, is_new_data, matched_of, need_of, needs_of, wanted_of}
 use Rattle.rp_sizes.specs.declared.need.Fact.{Fact}
@@ -47,7 +46,9 @@ use Rattle.rp_sizes.specs.declared.need.Need.{Need}
 use Rattle.rp_sizes.proofs.AskedLemmas.{hash_partner}
 use Rattle.rp_sizes.proofs.NewsLemmas.{All-answers, if_passes}
 use Rattle.rp_types.specs.Types.{label_of}
-use Rattle.rp_unchanged.specs.Pairs.{HasRoot, HaveRootIds, TakeHalves, TakesHalf}
+use Rattle.rp_unchanged.specs.Defined.{TakeHalves, TakesHalf}
+use Rattle.rp_unchanged.specs.Pairs.{HasRoot, HaveRootIds}
+use Rattle.rp_unchanged.proofs.Laid.{laid_row}
 use Rattle.rp_unchanged.proofs.Identified.{Has, Says, Somewhere, named_gets}
 
 -- the identifier of the row at a place
@@ -229,26 +230,9 @@ module _ (seen : Seen) (target : ℕ) (defs : List Definition) (facts : List Fac
   -- its row has no identifier before it is named
   laid_has : (j : ℕ) (e : ℕ × Definition) → slice_get taken j ≡ Some e → Has laid (count + j) no_id
   laid_has j e at =
-      let place = spots seen target defs facts seed areas placed plan given made in
-      let olds = old_rows seen target defs facts seed areas placed plan given made are in
-      let news = new_rows seen target defs facts seed areas placed plan given made are in
-      let size = rows_count seen target defs facts seed areas placed plan given made are in
-      let below : j < length taken = slice_get_within taken j e at in
-      let l : j < length (enumerate_from free taken) = omega (arith, below, length-enumerate_from free taken) in
-      let d : Row = row_for place (free + j, e) in
-      let row : get_or laid (count + j) d ≡ row_for place (free + j, e) =
-      ap (λ p. get_or (olds ++ news) (p + j) d) (sym size) ∙ get_or-append-add olds news j d
-      ∙ get_or-map (row_for place) (enumerate_from free taken) j (0, e) d l
-      ∙ ap (row_for place) (get_or-enumerate_from free taken j (0, e) below ∙ ap (λ x. (free + j, x)) (get_or_from_slice_get taken j e e at)) in
-      let inside : count + j < length laid = omega (
-        arith,
-        below,
-        size,
-        length-append olds news,
-        length-map (enumerate_from free taken) (row_for place),
-        length-enumerate_from free taken,
-      ) in
-      ap (option_map (λ (r : Row). r.id)) (slice_get-get_or laid (count + j) d inside ∙ ap (λ (r : Row). Some r) row)
+      let d : Row = row_for (spots seen target defs facts seed areas placed plan given made) (free + j, e) in
+      let there = laid_row seen target defs facts seed areas placed plan given made are j e d at in
+      ap (option_map (λ (r : Row). r.id)) (slice_get-get_or laid (count + j) d there.0 ∙ ap (λ (r : Row). Some r) there.1)
 
   -- it is given the one that is fixed
   kept_has : (j : ℕ) (e : ℕ × Definition) (id : Guid) → slice_get taken j ≡ Some e → fixed_of e ≡ Some id → Has plan.goal.rows (count + j) id

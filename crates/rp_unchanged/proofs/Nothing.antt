@@ -11,6 +11,7 @@ use Rattle.rp_defs.specs.declared.definition.Definition.{Definition}
 use Rattle.rp_difference.specs.Difference.{bad_of, difference, tree_difference}
 use Rattle.rp_difference.specs.declared.difference.Difference.TheVariants as differences
 use Rattle.rp_gpt.specs.declared.table_fault.Empty.{Empty}
+use Rattle.rp_gpt.specs.declared.table_fault.Empty.TheVariants.{Require}
 use Rattle.rp_headline.specs.Left.{ShowsGoal}
 use Rattle.rp_idle.specs.Idle.{IsPlanned}
 use Rattle.rp_idle.proofs.Public.{plan_for, plannable}
@@ -29,10 +30,13 @@ use Rattle.rp_types.specs.declared.arch.Arch.{Arch}
 use Rattle.rp_types.specs.declared.arch.Designator.{Designator}
 use Rattle.rp_types.specs.declared.arch.Designator.TheVariants.{Root, Usr}
 use Rattle.rp_verdict.specs.Rows.{row_of, tree_row}
-use Rattle.rp_unchanged.specs.Pairs.{HaveRightTrees, TakeHalves}
+use Rattle.rp_unchanged.specs.Defined.{AreSteady, TakeHalves}
+use Rattle.rp_unchanged.specs.Pairs.{HaveRightTrees}
 use Rattle.rp_unchanged.specs.Unchanged.{ArePaired, DiffersInNothing, HasPairOf, HasPairs, IsPlannedAgain, IsUnchanged}
 use Rattle.rp_unchanged.proofs.Again.{final_shows, seen_as_planned}
+use Rattle.rp_unchanged.proofs.Blank.{no_rows, none_dropped}
 use Rattle.rp_unchanged.proofs.Halves.{goal_has_root_ids}
+use Rattle.rp_unchanged.proofs.Paired.{goal_has_pairs}
 use Rattle.rp_unchanged.proofs.Sealed.{trees_right}
 
 module _ (image : List ℕ) (arch : Arch) (plan : Plan) (right : HaveRightTrees plan image) where
@@ -97,3 +101,20 @@ module _ (sector : ℕ) (old : List ℕ) (empty : Empty) (seen : Seen) (target :
       unchanged sector old empty seen target defs (facts seed files seen.shown defs) seed plan is image arch whole
       (final_shows sector old empty seen target defs (facts seed files seen.shown defs) seed plan is (sources_in files (paths_of defs)) image fit final)
       (final_trees image fit takes final) has
+
+-- an image that showed no table
+pub made_unchanged : (sector : ℕ) (old : List ℕ) (seen : Seen) (target : ℕ) (defs : List Definition) (files : List Stored) (seed : Guid)
+    (plan : Plan) (image : List ℕ) (arch : Arch)
+    → IsPlanned sector old Require seen target defs (facts seed files seen.shown defs) seed plan → NotesFit plan → AreSteady arch defs
+    → IsFinal old seen plan (contents plan (sources_in files (paths_of defs)) (grown old plan)) image
+    → (plan.dropped ≡ []) × IsUnchanged sector image arch seen plan defs seed
+made_unchanged sector old seen target defs files seed plan image arch is fit steady final =
+    let known = facts seed files seen.shown defs in
+    let ready = plannable sector old Require seen is.of_sector is.seen_of in
+    let aim : IsTarget seen.shown.sector seen.sectors target = rw ready.1 is.aim in
+    let whole = none_dropped seen target defs known seed plan steady.kept is.goal_is in (
+      whole,
+      final_unchanged sector old Require seen target defs files seed plan is image arch whole fit steady.halves final
+          (goal_has_pairs seen target defs known seed plan arch ready.0 aim is.definitions is.known is.goal_is
+          (no_rows sector old seen is.seen_of) steady.sealed),
+    )

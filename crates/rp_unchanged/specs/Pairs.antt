@@ -5,18 +5,7 @@ use Rattle.rp_base.specs.Plan.{IsPair, noted_of}
 use Rattle.rp_base.specs.declared.plan.Plan.{Plan}
 use Rattle.rp_base.specs.declared.plan.Role.{Role}
 use Rattle.rp_base.specs.declared.plan.Role.TheVariants.{Hash}
-use Rattle.rp_defs.specs.declared.definition.Definition.{Definition}
-use Rattle.rp_defs.specs.declared.definition.Verity.{Verity}
-use Rattle.rp_defs.specs.declared.definition.Verity.TheVariants.{Off}
 use Rattle.rp_tree.specs.Checked.{first_bad}
-
--- a half of a pair has no identifier of its own: it gets that of the root hash
-abbrev pub TakesHalf : Verity → Definition → Type 0
-TakesHalf Off definition = ⊤
-TakesHalf half definition = definition.id ≡ None
-
-abbrev pub TakeHalves : List Definition → Type 0
-TakeHalves defs = All (λ (definition : Definition). TakesHalf definition.verity definition) defs
 
 -- the root hash that is planned for a row's tree is this
 abbrev pub HasRoot : List ℕ → Role → Type 0
@@ -26,7 +15,8 @@ HasRoot ids other = ⊤
 -- the identifiers of each pair are the root hash that is planned for it
 abbrev pub HaveRootIds : Plan → Type 0
 HaveRootIds plan =
-    All (λ payload. All (λ hash. IsPair payload hash → HasRoot (payload.0.id.0 ++ hash.0.id.0) hash.1.role) (noted_of plan)) (noted_of plan)
+    All (λ payload. All (λ hash. IsPair payload hash → HasRoot (payload.0.id.0 ++ hash.0.id.0) hash.1.role) (noted_of plan))
+    (noted_of plan)
 
 -- nothing is wrong of the hash tree of any pair
 abbrev pub HaveRightTrees : Plan → List ℕ → Type 0

@@ -10,6 +10,7 @@ ghost use Rattle.rp_base.specs.declared.seen.Seen.{Seen};
 ghost use Rattle.rp_defs.specs.WellFormed.{IsWellFormed as AreWellFormed};
 ghost use Rattle.rp_defs.specs.declared.definition.Definition.{Definition};
 ghost use Rattle.rp_gpt.specs.declared.table_fault.Empty.{Empty};
+ghost use Rattle.rp_gpt.specs.declared.table_fault.Empty.TheVariants.{Require};
 ghost use Rattle.rp_headline.specs.Left.{ShowsGoal};
 ghost use Rattle.rp_idle.specs.Idle.{IsPlanned};
 ghost use Rattle.rp_io.specs.declared.stored.Stored.{Stored};
@@ -23,7 +24,8 @@ ghost use Rattle.rp_steps.specs.Contents.{NotesFit, Sources, contents};
 ghost use Rattle.rp_stops.specs.Final.{IsFinal};
 ghost use Rattle.rp_stops.specs.Rows.{HoldContents, grown};
 ghost use Rattle.rp_types.specs.declared.arch.Arch.{Arch};
-ghost use Rattle.rp_unchanged.specs.Pairs.{HaveRightTrees, HaveRootIds, TakeHalves};
+ghost use Rattle.rp_unchanged.specs.Defined.{AreNeverDropped, AreSealed, AreSteady, TakeHalves};
+ghost use Rattle.rp_unchanged.specs.Pairs.{HaveRightTrees, HaveRootIds};
 ghost use Rattle.rp_unchanged.specs.Unchanged.{HasPairs, IsSeenAsPlanned, IsUnchanged};
 
 /// An image that shows a goal which drops no definition is accepted as it was planned, by its primary copy, with both copies exact.
@@ -72,4 +74,29 @@ pub fn a_finished_image_differs_in_nothing()
         → IsPlanned sector old empty seen target defs (facts seed files seen.shown defs) seed plan → plan.dropped ≡ [] → NotesFit plan
         → TakeHalves defs → IsFinal old seen plan (contents plan (sources_in files (paths_of defs)) (grown old plan)) image
         → HasPairs arch plan → IsUnchanged sector image arch seen plan defs seed }
+{}
+
+/// A goal drops no definition of priority 0 or lower.
+pub fn the_least_priorities_are_never_dropped()
+    ensures { (seen : Seen) (target : ℕ) (defs : List Definition) (known : List Fact) (seed : Guid) (plan : Plan) → AreNeverDropped defs
+        → goal seen target defs known seed ≡ Ok plan → plan.dropped ≡ [] }
+{}
+
+/// A goal for an image that shows no rows has the partitions of root and usr and of their hash trees as pairs, where the definitions
+/// of their types are.
+pub fn new_tables_have_their_pairs()
+    ensures { (seen : Seen) (target : ℕ) (defs : List Definition) (known : List Fact) (seed : Guid) (plan : Plan) (arch : Arch)
+        → IsPlannable seen → IsTarget seen.shown.sector seen.sectors target → AreWellFormed defs
+        → AreFactsOn (wanted_of seen.shown defs) known → goal seen target defs known seed ≡ Ok plan → seen.shown.rows ≡ []
+        → AreSealed arch defs → HasPairs arch plan }
+{}
+
+/// Where the image showed no table, and definitions are never dropped, leave the identifiers of pairs to their root hashes, and pair
+/// root and usr with their hash trees, the final image differs in nothing from what is planned for it again.
+pub fn a_made_image_differs_in_nothing()
+    ensures { (sector : ℕ) (old : List ℕ) (seen : Seen) (target : ℕ) (defs : List Definition) (files : List Stored) (seed : Guid)
+        (plan : Plan) (image : List ℕ) (arch : Arch)
+        → IsPlanned sector old Require seen target defs (facts seed files seen.shown defs) seed plan → NotesFit plan
+        → AreSteady arch defs → IsFinal old seen plan (contents plan (sources_in files (paths_of defs)) (grown old plan)) image
+        → (plan.dropped ≡ []) × IsUnchanged sector image arch seen plan defs seed }
 {}
