@@ -158,7 +158,8 @@ tree_isnt_usr : is_of X86_64 Usr root_tree ≡ false
 unfolding designator_of entry_of types guid_of by_index
 tree_isnt_usr = refl
 
-no_type : (d : Designator) (kind other : Guid) → bytes_eq kind.0 other.0 ≡ true → is_of X86_64 d other ≡ false → is_of X86_64 d kind ≡ true → ⊥
+no_type : (d : Designator) (kind other : Guid) → bytes_eq kind.0 other.0 ≡ true → is_of X86_64 d other ≡ false
+    → is_of X86_64 d kind ≡ true → ⊥
 no_type d kind other same none is = let clash : true ≡ false = sym is ∙ ap (is_of X86_64 d) (same_kind kind other same) ∙ none in cc
 
 module _ (place : ℕ) (list : List Definition) (is : list_all (is_paired place) (enumerate_from 0 list) ≡ true) where

@@ -35,13 +35,15 @@ use Rattle.rp_unchanged.specs.Unchanged.{IsPlannedAgain, IsSeenAsPlanned}
 
 -- a table isn't another than itself
 own_table : (table : Table) → is_other_table table table ≡ false
-own_table table = rw ((bytes_eq-Decides table.disk.0 table.disk.0).1 refl, eq-eqb table.first table.first refl, eq-eqb table.last table.last refl) refl
+own_table table = rw
+    ((bytes_eq-Decides table.disk.0 table.disk.0).1 refl, eq-eqb table.first table.first refl, eq-eqb table.last table.last refl) refl
 
 same_alone : (c : Change) → c ≡ changes.Same → is_other_row c ≡ false
 same_alone c is = ap is_other_row is
 
 -- where each row is the same, none is another
-no_other : (notes : List Note) → All (λ (note : Note). note.change ≡ changes.Same) notes → find (λ (note : Note). is_other_row note.change) notes ≡ None
+no_other : (notes : List Note) → All (λ (note : Note). note.change ≡ changes.Same) notes
+    → find (λ (note : Note). is_other_row note.change) notes ≡ None
 no_other [] all = refl
 no_other (note ∷ notes) all =
     rw (same_alone note.change (All-head (λ (note : Note). note.change ≡ changes.Same) note notes all))
@@ -54,7 +56,8 @@ never_stale mbrs.Differs = refl
 never_stale mbrs.Foreign = refl
 
 -- of what is seen after a plan nothing differs from a plan with its table and the same rows
-pub nothing_differs : (seen : Seen) (plan next : Plan) → next.goal ≡ plan.goal → All (λ (note : Note). note.change ≡ changes.Same) next.notes
+pub nothing_differs : (seen : Seen) (plan next : Plan) → next.goal ≡ plan.goal
+    → All (λ (note : Note). note.change ≡ changes.Same) next.notes
     → table_difference (seen_after seen plan) next ≡ None
 unfolding table_difference
 nothing_differs seen plan next table all =
@@ -71,7 +74,8 @@ module _ (sector : ℕ) (old : List ℕ) (empty : Empty) (seen : Seen) (target :
   planned_again whole others =
       let ready = plannable sector old empty seen is.of_sector is.seen_of in
       let aim : IsTarget seen.shown.sector seen.sectors target = rw ready.1 is.aim in
-      let next = goal_stays seen target defs facts seed plan ready.0 aim is.definitions is.goal_is whole (seen_after seen plan) others seed refl in
+      let next = goal_stays seen target defs facts seed plan ready.0 aim is.definitions is.goal_is whole
+      (seen_after seen plan) others seed refl in
       let own = target_kept seen target defs facts seed plan is.goal_is in
       record {
         plan = next.0;
@@ -89,11 +93,13 @@ module _ (sector : ℕ) (old : List ℕ) (empty : Empty) (seen : Seen) (target :
   }
 
   -- the final image shows the goal
-  pub final_shows : (sources : Sources) (image : List ℕ) → NotesFit plan → IsFinal old seen plan (contents plan sources (grown old plan)) image
+  pub final_shows : (sources : Sources) (image : List ℕ) → NotesFit plan
+      → IsFinal old seen plan (contents plan sources (grown old plan)) image
       → ShowsGoal sector seen plan image
   final_shows sources image fit final =
       let made = is_final sector old empty seen target defs facts seed plan is sources fit in
-      let same = one_final old seen plan (contents plan sources (grown old plan)) (all_done old (calls plan seen sources)) image made final in
+      let same = one_final old seen plan (contents plan sources (grown old plan))
+      (all_done old (calls plan seen sources)) image made final in
       subst (ShowsGoal sector seen plan) same
       (shows_goal sector old empty seen target defs facts seed plan is (contents_calls plan sources) (calls plan seen sources)
       (are_calls_of sector old empty seen target defs facts seed plan is sources fit))

@@ -93,7 +93,8 @@ threshold_of : (t : ℤ) (r : Result (List (Option ℕ)) PlaceFault) (placed : P
 threshold_of t (Ok places) placed is = cc
 threshold_of t (Err fault) placed is = absurd (cc)
 
-no_answer : {X Y : Type 0} (f : ℕ × X → Option Y) (n : ℕ) (xs : List X) → ((k : ℕ) (x : X) (m : ℕ) → slice_get xs k ≡ Some x → f (m, x) ≡ None)
+no_answer : {X Y : Type 0} (f : ℕ × X → Option Y) (n : ℕ) (xs : List X)
+    → ((k : ℕ) (x : X) (m : ℕ) → slice_get xs k ≡ Some x → f (m, x) ≡ None)
     → filter_map f (enumerate_from n xs) ≡ []
 no_answer f n [] lacks = refl
 no_answer f n (x ∷ xs) lacks = rw (lacks 0 x n refl) (no_answer f (n + 1) xs (λ k y m at. lacks (suc k) y m at))
@@ -119,6 +120,7 @@ none_dropped seen target defs facts seed plan never is =
     ap (λ (p : Plan). p.dropped) made.2.same
     ∙ no_answer (dropped_file own placed.threshold) 0 defs (λ k def m at.
     let priority : int_le def.priority (pos 0) ≡ true =
-    subst (λ (d : Definition). int_le d.priority (pos 0) ≡ true) (get_or_from_slice_get defs k def def at) (never k def (slice_get_within defs k def at)) in
+    subst (λ (d : Definition). int_le d.priority (pos 0) ≡ true) (get_or_from_slice_get defs k def def at)
+    (never k def (slice_get_within defs k def at)) in
     kept_by (is_new own m) (int_le def.priority placed.threshold) m
     (ap (int_le def.priority) (t ∙ number.1) ∙ at_most def.priority number.0 priority))

@@ -72,7 +72,8 @@ answer_somewhere P f n [] k m x y e at is holds = absurd (cc)
 answer_somewhere P f n (z ∷ xs) zero m x y e at is holds =
     let same : z ≡ x = cc in
     let place : m ≡ n = omega (arith, e) in
-    first_somewhere P (f (n, z)) (filter_map f (enumerate_from (n + 1) xs)) y (ap (λ w. f (n, w)) same ∙ ap (λ p. f (p, x)) (sym place) ∙ is) holds
+    first_somewhere P (f (n, z)) (filter_map f (enumerate_from (n + 1) xs)) y
+    (ap (λ w. f (n, w)) same ∙ ap (λ p. f (p, x)) (sym place) ∙ is) holds
 answer_somewhere P f n (z ∷ xs) (suc k) m x y e at is holds =
     more_somewhere P (f (n, z)) (filter_map f (enumerate_from (n + 1) xs))
     (answer_somewhere P f (n + 1) xs k m x y (omega (arith, e)) at is holds)
@@ -117,13 +118,15 @@ module _ (seed : Guid) (defs : List Definition) (facts : List Fact) (free : ℕ)
   hash_by (Data q) partner blocks salt uuid root is =
       absurd (let e : roles.Data (slot_in free files q) (root_planned facts file) ≡ roles.Hash partner blocks salt uuid root = is in cc)
   hash_by (Hash q) partner blocks salt uuid root is =
-      let e : roles.Hash (slot_in free files q) _ _ _ (root_planned facts q) ≡ roles.Hash partner blocks salt uuid root = is in (q, refl, cc, cc)
+      let e : roles.Hash (slot_in free files q) _ _ _ (root_planned facts q) ≡ roles.Hash partner blocks salt uuid root =
+      is in (q, refl, cc, cc)
 
 old_never : (b : Bool) → cond b changes.Same changes.Changed ≡ changes.New → ⊥
 old_never true is = absurd (let e : changes.Same ≡ changes.New = is in cc)
 old_never false is = absurd (let e : changes.Changed ≡ changes.New = is in cc)
 
-module _ (seen : Seen) (target : ℕ) (defs : List Definition) (facts : List Fact) (seed : Guid) (areas : List Area) (placed : Placed) (plan : Plan)
+module _ (seen : Seen) (target : ℕ) (defs : List Definition) (facts : List Fact) (seed : Guid) (areas : List Area) (placed : Placed)
+    (plan : Plan)
     (given : IsGiven seen target defs (matched_of seen.shown defs)) (made : IsMadeOf seen target defs facts seed areas placed plan)
     (are : AreFactsOn (wanted_of seen.shown defs) facts) (takes : TakeHalves defs) where
   abbrev own : List (Option ℕ)
@@ -156,7 +159,8 @@ module _ (seen : Seen) (target : ℕ) (defs : List Definition) (facts : List Fac
   abbrev fixed_of : ℕ × Definition → Option Guid
   fixed_of e = option_or e.1.id (half_id facts e.0 e.1.verity)
 
-  taken_at : (j : ℕ) (e : ℕ × Definition) → slice_get taken j ≡ Some e → (slice_get defs e.0 ≡ Some e.1) × (is_kept own placed.threshold e ≡ true)
+  taken_at : (j : ℕ) (e : ℕ × Definition) → slice_get taken j ≡ Some e
+      → (slice_get defs e.0 ≡ Some e.1) × (is_kept own placed.threshold e ≡ true)
   taken_at j e at = is_taken seen target defs facts seed areas placed plan given made are j e at
 
   -- a kept definition has no row, and is named in its new one
@@ -167,7 +171,8 @@ module _ (seen : Seen) (target : ℕ) (defs : List Definition) (facts : List Fac
       ∙ ap (option_map (λ rank. count + rank)) (rank_is own placed.threshold defs j e at)
 
   -- no other definition is named there
-  placed_alone : (j : ℕ) (e : ℕ × Definition) (m : ℕ) → slice_get taken j ≡ Some e → (o r : Option ℕ) → IfSome o (λ p. p < count) → rank_in files m ≡ r
+  placed_alone : (j : ℕ) (e : ℕ × Definition) (m : ℕ) → slice_get taken j ≡ Some e → (o r : Option ℕ) → IfSome o (λ p. p < count)
+      → rank_in files m ≡ r
       → option_or o (option_map (λ rank. count + rank) r) ≡ Some (count + j) → m ≡ e.0
   placed_alone j e m at (Some p) r within rank is = absurd (let same : p ≡ count + j = cc in omega (arith, within, same))
   placed_alone j e m at None None within rank is = absurd (cc)
@@ -235,7 +240,8 @@ module _ (seen : Seen) (target : ℕ) (defs : List Definition) (facts : List Fac
       ap (option_map (λ (r : Row). r.id)) (slice_get-get_or laid (count + j) d there.0 ∙ ap (λ (r : Row). Some r) there.1)
 
   -- it is given the one that is fixed
-  kept_has : (j : ℕ) (e : ℕ × Definition) (id : Guid) → slice_get taken j ≡ Some e → fixed_of e ≡ Some id → Has plan.goal.rows (count + j) id
+  kept_has : (j : ℕ) (e : ℕ × Definition) (id : Guid) → slice_get taken j ≡ Some e → fixed_of e ≡ Some id
+      → Has plan.goal.rows (count + j) id
   kept_has j e id at fixed =
       named_gets (count + j) id no_id laid namings seed plan.goal.rows ((bytes_eq-Decides (replicate 16 0) (replicate 16 0)).1 refl)
       (says j e id at fixed) (named_there j e at) (laid_has j e at) named_so
@@ -276,22 +282,26 @@ module _ (seen : Seen) (target : ℕ) (defs : List Definition) (facts : List Fac
   half_takes : (k : ℕ) (def : Definition) (v : Verity) → slice_get defs k ≡ Some def → def.verity ≡ v → TakesHalf v def
   half_takes k def v at half =
       subst (λ v. TakesHalf v def) half
-      (subst (λ (d : Definition). TakesHalf d.verity d) (get_or_from_slice_get defs k def def at) (takes k def (slice_get_within defs k def at)))
+      (subst (λ (d : Definition). TakesHalf d.verity d) (get_or_from_slice_get defs k def def at)
+      (takes k def (slice_get_within defs k def at)))
 
-  data_fixed : (q h : ℕ) (def : Definition) (root : List ℕ) → slice_get defs q ≡ Some def → def.verity ≡ Data h → root_at facts q ≡ Some root
+  data_fixed : (q h : ℕ) (def : Definition) (root : List ℕ) → slice_get defs q ≡ Some def → def.verity ≡ Data h
+      → root_at facts q ≡ Some root
       → fixed_of (q, def) ≡ Some (record { 0 = take 16 root })
   data_fixed q h def root at half known =
       ap (λ o. option_or o (half_id facts q def.verity)) (half_takes q def (Data h) at half) ∙ ap (half_id facts q) half
       ∙ ap (option_map (λ root. record { 0 = take 16 root })) known
 
-  hash_fixed : (k q : ℕ) (def : Definition) (root : List ℕ) → slice_get defs k ≡ Some def → def.verity ≡ Hash q → root_at facts q ≡ Some root
+  hash_fixed : (k q : ℕ) (def : Definition) (root : List ℕ) → slice_get defs k ≡ Some def → def.verity ≡ Hash q
+      → root_at facts q ≡ Some root
       → fixed_of (k, def) ≡ Some (record { 0 = drop 16 root })
   hash_fixed k q def root at half known =
       ap (λ o. option_or o (half_id facts k def.verity)) (half_takes k def (Hash q) at half) ∙ ap (half_id facts k) half
       ∙ ap (option_map (λ root. record { 0 = drop 16 root })) known
 
   -- the root hash of a new pair is known
-  root_known : (q h : ℕ) (def : Definition) → slice_get defs q ≡ Some def → is_new own q ≡ true → is_some def.source ≡ true → def.verity ≡ Data h
+  root_known : (q h : ℕ) (def : Definition) → slice_get defs q ≡ Some def → is_new own q ≡ true → is_some def.source ≡ true
+      → def.verity ≡ Data h
       → is_new own h ≡ true → IsSome (root_at facts q)
   root_known q h def at new source half other_new =
       let pair : is_new_data own def.verity ≡ true = ap (is_new_data own) half ∙ other_new in
@@ -344,7 +354,8 @@ module _ (seen : Seen) (target : ℕ) (defs : List Definition) (facts : List Fac
       by_root q def i j d f u o half partner.1 partner.2.data_names entry (root_at facts q) refl known root v.3 _ role
     where
       by_root : (q : ℕ) (def : Definition) (i j : ℕ) (d f : Noted) (u : IsKept i d) (o : IsKept j f) → o.e.1.verity ≡ Hash q
-          → slice_get defs q ≡ Some def → def.verity ≡ Data o.e.0 → u.e ≡ (q, def) → (known : Option (List ℕ)) → root_at facts q ≡ known → IsSome known
+          → slice_get defs q ≡ Some def → def.verity ≡ Data o.e.0 → u.e ≡ (q, def) → (known : Option (List ℕ)) → root_at facts q ≡ known
+          → IsSome known
           → (root : List ℕ) → root_planned facts q ≡ root → (partner : ℕ × ℕ × List ℕ × Guid)
           → (get_or (noted_of plan) j f).1.role ≡ roles.Hash partner.0 partner.1 partner.2 partner.3 root
           → HasRoot ((get_or (noted_of plan) i d).0.id.0 ++ (get_or (noted_of plan) j f).0.id.0) (get_or (noted_of plan) j f).1.role
@@ -362,7 +373,8 @@ module _ (seen : Seen) (target : ℕ) (defs : List Definition) (facts : List Fac
   have_root_ids i d near j f far = pair_has i j d f near far
 
 -- a goal gives each new pair its root hash as identifiers
-pub goal_has_root_ids : (seen : Seen) (target : ℕ) (defs : List Definition) (facts : List Fact) (seed : Guid) (plan : Plan) → IsPlannable seen
+pub goal_has_root_ids : (seen : Seen) (target : ℕ) (defs : List Definition) (facts : List Fact) (seed : Guid) (plan : Plan)
+    → IsPlannable seen
     → IsTarget seen.shown.sector seen.sectors target → AreWellFormed defs → AreFactsOn (wanted_of seen.shown defs) facts → TakeHalves defs
     → goal seen target defs facts seed ≡ Ok plan → HaveRootIds plan
 goal_has_root_ids seen target defs facts seed plan plannable aim wf are takes is =

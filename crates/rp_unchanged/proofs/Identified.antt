@@ -62,7 +62,8 @@ module _ (place : ℕ) (id : Guid) where
       (λ now naming q is. label_ids now naming.row naming.label place ∙ is) rows namings (any_naming namings) has
 
   -- an identifier stays
-  steps_has : (some : is_zero id ≡ false) (rows : List Row) (at : ℕ) (after : List Row) → Steps rows at after → Has rows place id → Has after place id
+  steps_has : (some : is_zero id ≡ false) (rows : List Row) (at : ℕ) (after : List Row) → Steps rows at after → Has rows place id
+      → Has after place id
   steps_has some rows at after (inl same) has = rw same has
   steps_has some rows at after (inr (new, g)) has = elim (eqb_tells at place) [
     | inl w ↦
@@ -94,7 +95,8 @@ module _ (place : ℕ) (id : Guid) where
   Got rows = (is_zero id ≡ false) × Has rows place id
 
   got_by : (rows : List Row) (naming : Naming) (old : Guid) (after : List Row) (b : Bool) → (is_zero id || is_used rows id) ≡ b
-      → naming.row ≡ place → Has rows place old → cond b (Err (TakenIdentifier naming.file)) (Ok (given rows naming.row id)) ≡ Ok after → Got after
+      → naming.row ≡ place → Has rows place old → cond b (Err (TakenIdentifier naming.file)) (Ok (given rows naming.row id)) ≡ Ok after
+      → Got after
   got_by rows naming old after true is at has done = absurd (cc)
   got_by rows naming old after false is at has done =
       let same : given rows naming.row id ≡ after = cc in (
@@ -115,18 +117,21 @@ module _ (place : ℕ) (id : Guid) where
       (sym (ap (λ b. cond b (fixed_to rows naming naming.fixed) (Ok rows)) waited ∙ ap (fixed_to rows naming) fixed) ∙ done)
 
   fixed_gets : (old : Guid) (rows : List Row) (namings : List Naming) (after : List Row) → is_zero old ≡ true → All Says namings
-      → Somewhere (λ (naming : Naming). naming.row ≡ place) namings → Has rows place old → in_turn fixed_one rows namings ≡ Ok after → Got after
+      → Somewhere (λ (naming : Naming). naming.row ≡ place) namings → Has rows place old → in_turn fixed_one rows namings ≡ Ok after
+      → Got after
   unfolding in_turn
   fixed_gets old rows [] after zeros says there has done = absurd there
   fixed_gets old rows (naming ∷ namings) after zeros says there has done =
       by_step (fixed_one rows naming) refl done (λ mid rest kept other.
       fixed_gets old mid namings after zeros (All-tail Says naming namings says) (later there other) kept rest)
     where
-      later : Somewhere (λ (n : Naming). n.row ≡ place) (naming ∷ namings) → naming.row ≢ place → Somewhere (λ (n : Naming). n.row ≡ place) namings
+      later : Somewhere (λ (n : Naming). n.row ≡ place) (naming ∷ namings) → naming.row ≢ place
+          → Somewhere (λ (n : Naming). n.row ≡ place) namings
       later (inl here) other = absurd (other here)
       later (inr behind) other = behind
 
-      by_step : (r : Result (List Row) IdentFault) → fixed_one rows naming ≡ r → then_with r (λ mid. in_turn fixed_one mid namings) ≡ Ok after
+      by_step : (r : Result (List Row) IdentFault) → fixed_one rows naming ≡ r
+          → then_with r (λ mid. in_turn fixed_one mid namings) ≡ Ok after
           → ((mid : List Row) → in_turn fixed_one mid namings ≡ Ok after → Has mid place old → naming.row ≢ place → Got after) → Got after
       by_step (Err fault) is done more = absurd (cc)
       by_step (Ok mid) is done more = elim (eqb_tells naming.row place) [
@@ -134,7 +139,8 @@ module _ (place : ℕ) (id : Guid) where
             let got = got_here rows naming old mid zeros has w.1 (All-head Says naming namings says w.1) is in
             (got.0, fixed_has got.0 mid namings after done got.1)
         | inr w ↦
-            more mid done (ap (option_map (λ row. row.id)) (steps-other rows naming.row place mid w.1 (fixed-steps rows naming mid is)) ∙ has) w.1
+            more mid done (ap (option_map (λ row. row.id)) (steps-other rows naming.row place mid w.1 (fixed-steps rows naming mid is))
+            ∙ has) w.1
       ]
 
   -- so it has it when all are named

@@ -64,7 +64,8 @@ module _ (seen : Seen) (target : ℕ) (defs : List Definition) (facts : List Fac
 
   -- and in the goal: naming leaves all but name and identifier
   pub goal_row : (j : ℕ) (e : ℕ × Definition) (d : Row) → slice_get taken j ≡ Some e
-      → bare (get_or plan.goal.rows (count + j) d) ≡ bare (row_for (spots seen target defs facts seed areas placed plan given made) (free + j, e))
+      → bare (get_or plan.goal.rows (count + j) d)
+      ≡ bare (row_for (spots seen target defs facts seed areas placed plan given made) (free + j, e))
   goal_row j e d at =
       let below : j < length taken = slice_get_within taken j e at in
       let inside : count + j < length plan.goal.rows =

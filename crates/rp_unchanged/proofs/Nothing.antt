@@ -43,7 +43,8 @@ module _ (image : List ℕ) (arch : Arch) (plan : Plan) (right : HaveRightTrees 
   -- nothing is wrong of a pair of the plan
   paired_right : (payload hash : Row) → ArePaired plan payload hash → first_bad image payload hash ≡ None
   paired_right payload hash (i, first, near, is, (j, other, far, at, (pair, one, two))) =
-      let P : Noted → Type 0 = λ n. IsPair n (get_or (noted_of plan) j other) → first_bad image n.0 (get_or (noted_of plan) j other).0 ≡ None in
+      let P : Noted → Type 0 = λ n. IsPair n (get_or (noted_of plan) j other)
+      → first_bad image n.0 (get_or (noted_of plan) j other).0 ≡ None in
       let Q : Noted → Type 0 = λ m. IsPair first m → first_bad image first.0 m.0 ≡ None in
       let found : first_bad image first.0 other.0 ≡ None = subst Q at (subst P is (right i first near j other far)) pair in
       sym (ap (λ (r : Row). first_bad image r other.0) one ∙ ap (first_bad image payload) two) ∙ found
@@ -99,7 +100,8 @@ module _ (sector : ℕ) (old : List ℕ) (empty : Empty) (seen : Seen) (target :
       → HasPairs arch plan → IsUnchanged sector image arch seen plan defs seed
   final_unchanged image arch whole fit takes final has =
       unchanged sector old empty seen target defs (facts seed files seen.shown defs) seed plan is image arch whole
-      (final_shows sector old empty seen target defs (facts seed files seen.shown defs) seed plan is (sources_in files (paths_of defs)) image fit final)
+      (final_shows sector old empty seen target defs (facts seed files seen.shown defs) seed plan is
+      (sources_in files (paths_of defs)) image fit final)
       (final_trees image fit takes final) has
 
 -- an image that showed no table

@@ -37,12 +37,14 @@ block_at : (blocks : List (List ℕ)) (rest : List ℕ) (k : ℕ) → All IsBloc
 block_at [] rest k each inside = absurd (omega arith)
 block_at (b ∷ blocks) rest zero each inside =
     let long : length b ≡ 4096 = All-head IsBlock b blocks each in
-    ap (take 4096) (append_assoc b (concat blocks) rest) ∙ take-append-le 4096 b (concat blocks ++ rest) (omega arith) ∙ take_all 4096 b (omega arith)
+    ap (take 4096) (append_assoc b (concat blocks) rest) ∙ take-append-le 4096 b (concat blocks ++ rest) (omega arith)
+    ∙ take_all 4096 b (omega arith)
 block_at (b ∷ blocks) rest (suc k) each inside =
     let long : length b ≡ 4096 = All-head IsBlock b blocks each in
     let place : 4096 * suc k ≡ 4096 + 4096 * k = omega arith in
     let behind : drop 4096 (b ++ (concat blocks ++ rest)) ≡ concat blocks ++ rest =
-    drop-append-le 4096 b (concat blocks ++ rest) (omega arith) ∙ ap (λ (xs : List ℕ). xs ++ (concat blocks ++ rest)) (drop_all 4096 b (omega arith)) in
+    drop-append-le 4096 b (concat blocks ++ rest) (omega arith)
+    ∙ ap (λ (xs : List ℕ). xs ++ (concat blocks ++ rest)) (drop_all 4096 b (omega arith)) in
     ap (λ (n : ℕ). take 4096 (drop n (concat (b ∷ blocks) ++ rest))) place
     ∙ ap (λ (xs : List ℕ). take 4096 (drop (4096 + 4096 * k) xs)) (append_assoc b (concat blocks) rest)
     ∙ ap (take 4096) (sym (drop-drop (4096 * k) 4096 (b ++ (concat blocks ++ rest))) ∙ ap (drop (4096 * k)) behind)
@@ -119,7 +121,8 @@ module _ (seen : Seen) (plan : Plan) (sources : Sources) (before image : List �
       whole_count : length whole ≡ hash_blocks count
       whole_count =
           let long = length-tree plan sources partner_at count salt some in
-          let same : length (tree_over plan sources partner_at count salt) ≡ length (stored_tree salt blocks) = ap (λ (t : List (List ℕ)). length t) tree_is in
+          let same : length (tree_over plan sources partner_at count salt) ≡ length (stored_tree salt blocks) =
+          ap (λ (t : List (List ℕ)). length t) tree_is in
           omega (arith, long, same)
 
       -- the blocks of the hash row
@@ -127,7 +130,8 @@ module _ (seen : Seen) (plan : Plan) (sources : Sources) (before image : List �
       hash_block k below =
           let room = pair.room in
           let size : 4096 * k + 4096 - 4096 * k ≡ 4096 = omega arith in
-          let long : length (concat whole) ≡ 4096 * hash_blocks count = length-blocks whole all_blocks ∙ ap (λ (n : ℕ). 4096 * n) whole_count in
+          let long : length (concat whole) ≡ 4096 * hash_blocks count = length-blocks whole all_blocks
+          ∙ ap (λ (n : ℕ). 4096 * n) whole_count in
           sym (part-part image (512 * over.0.start) (512 * over.0.size) (4096 * k) 4096 (omega arith))
           ∙ ap (λ (bytes : List ℕ). bytes_at bytes (4096 * k) 4096)
           (hash_holds ∙ resized-longer plan sources (concat whole) (byte_count over.0) (4096 * hash_blocks count) long (omega arith))
@@ -173,5 +177,6 @@ module _ (seen : Seen) (plan : Plan) (sources : Sources) (before image : List �
 
     pub trees_right : HaveRightTrees plan image
     trees_right i d near j e far pair =
-        sealed-bad image (get_or (noted_of plan) i d).0 (get_or (noted_of plan) j e).0 (uuid i j d e near far pair) (salt i j d e near far pair)
+        sealed-bad image (get_or (noted_of plan) i d).0 (get_or (noted_of plan) j e).0 (uuid i j d e near far pair)
+        (salt i j d e near far pair)
         (blocks i j d e near far pair) (sealed i j d e near far pair)
