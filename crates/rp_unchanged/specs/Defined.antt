@@ -1,5 +1,4 @@
--- Definitions that leave nothing to differ (Discoverable Partitions Specification: the identifiers of a pair are the halves of its root
--- hash; repart.d(5), Priority=: those of 0 or lower are never dropped).
+-- Definitions by which an image stays as it is made: own rules.
 use Rattle.std.specs.Prelude.{ℕ, ◌≡◌, ◌==◌, pos, int_le, List, All, Bool, true, false, Some, None, slice_get, ⊤}
 use Rattle.std.specs.Option.{option_map_or}
 use Rattle.rp_base.specs.declared.guid.Guid.{Guid}
@@ -12,7 +11,7 @@ use Rattle.rp_types.specs.declared.arch.Arch.{Arch}
 use Rattle.rp_types.specs.declared.arch.Designator.{Designator}
 use Rattle.rp_types.specs.declared.arch.Designator.TheVariants.{Root, Usr, RootVerity, UsrVerity}
 
--- a half of a pair has no identifier of its own: it gets that of the root hash
+-- a half of a pair says no identifier, and gets that of the root hash (Discoverable Partitions Specification)
 abbrev pub TakesHalf : Verity → Definition → Type 0
 TakesHalf Off definition = ⊤
 TakesHalf half definition = definition.id ≡ None
@@ -20,7 +19,7 @@ TakesHalf half definition = definition.id ≡ None
 abbrev pub TakeHalves : List Definition → Type 0
 TakeHalves defs = All (λ (definition : Definition). TakesHalf definition.verity definition) defs
 
--- a type is that of a designator, for the architecture
+-- a type is that of a designator, for the architecture (Discoverable Partitions Specification)
 abbrev pub is_of : Arch → Designator → Guid → Bool
 is_of arch d kind = option_map_or (λ e. place e == place d) (designator_of kind arch) false
 
@@ -33,7 +32,7 @@ AreHalves arch d tree defs = (i j : ℕ) (payload hash : Definition) → slice_g
 abbrev pub AreSealed : Arch → List Definition → Type 0
 AreSealed arch defs = AreHalves arch Root RootVerity defs × AreHalves arch Usr UsrVerity defs
 
--- none is dropped
+-- none is dropped: those of priority 0 or lower never are (repart.d(5), Priority=)
 abbrev pub AreNeverDropped : List Definition → Type 0
 AreNeverDropped defs = All (λ (definition : Definition). int_le definition.priority (pos 0) ≡ true) defs
 
