@@ -1,20 +1,31 @@
 -- What was tried of each number, as facts.
-use Rattle.std.proofs.Common.{◌≡◌, ◌∙◌, ℕ, zero, suc, ◌+◌, ◌<◌, ◌≤◌, ℤ, pos, negsuc, Bool, true, false, Result, Ok, Err, List, [], ◌∷◌, All, refl, ap, length, Option, Some, None, eqb, leb, arith}
-use Rattle.std.specs.Prelude.{codes, IfSome, ◌&&◌, ◌==◌}
-use Rattle.std.specs.List.{list_all}
+use Rattle.std.proofs.Common.{◌≡◌, ◌∙◌, ℕ, zero, suc, ◌+◌, ◌<◌, ◌≤◌, ℤ, pos, negsuc, Bool, true, false, Result, Ok, Err, List, [], ◌∷◌, All, refl, sym, ap, length, Option, Some, None, eqb, leb, arith, slice_get, zero-add, inl, inr, ◌⊎◌}
+use Rattle.std.specs.Prelude.{codes, int_le, is_none, IfSome, ◌&&◌, ◌||◌, ◌==◌}
+use Rattle.std.specs.List.{enumerate_from, list_all}
+use Rattle.std.specs.Str.{bytes_eq}
 use Rattle.std.proofs.lemmas.Bool.{eqb-false, eqb-true, leb-false, leb-true}
 use Rattle.std.proofs.lemmas.Slice.Eq.{bytes_eq-Decides}
-use Rattle.std.proofs.lemmas.List.Elements.{All-cons, All-nil}
+use Rattle.std.proofs.lemmas.List.Elements.{All-cons, All-nil, All-weaker}
+use Rattle.rp_base.specs.declared.guid.Guid.{Guid}
 use Rattle.rp_defs.specs.declared.definition.Definition.{Definition}
+use Rattle.rp_defs.specs.declared.definition.Verity.{Verity}
+use Rattle.rp_defs.specs.declared.definition.Verity.TheVariants.{Off, Data, Hash}
 use Rattle.rp_defs.specs.declared.definition.Definitions.{Definitions}
 use Rattle.rp_io.specs.Files.{Tree}
 use Rattle.rp_make_input.specs.MakeInput.{folders_of}
 use Rattle.rp_outcome.specs.Refusals.{Refusal}
 use Rattle.rp_reading.specs.Reading.{definitions_in}
 use Rattle.rp_types.specs.declared.arch.Arch.TheVariants.{X86_64}
+use Rattle.rp_types.specs.Guids.{guid_of}
+use Rattle.rp_types.specs.Table.{types}
+use Rattle.rp_types.specs.Types.{designator_of, entry_of}
+use Rattle.rp_types.specs.declared.arch.Designator.{Designator}
+use Rattle.rp_types.specs.declared.arch.Designator.TheVariants.{Root, Usr, RootVerity}
+use Rattle.uuid.specs.Text.{by_index}
+use Rattle.rp_unchanged.specs.Defined.{AreNeverDropped, AreSealed, AreSteady, TakeHalves, TakesHalf, is_of}
 use Rattle.rp_make_definitions.specs.Made.{HasDefinitions, IsMade}
 use Rattle.rp_make_definitions.proofs.Spelled.{tree, tree_is}
-use Rattle.rp_make_definitions.proofs.Tried.{is_made, is_raw, is_right, is_zero, right, right_behind, tried_none, tried_0, tried_10, tried_20, tried_30, tried_40, tried_50, tried_60, tried_70, tried_80, tried_90}
+use Rattle.rp_make_definitions.proofs.Tried.{generic, is_data, is_made, is_paired, is_raw, is_right, is_zero, right, right_behind, root, root_tree, tried_none, tried_0, tried_10, tried_20, tried_30, tried_40, tried_50, tried_60, tried_70, tried_80, tried_90}
 
 both : (a b : Bool) → (a && b) ≡ true → (a ≡ true) × (b ≡ true)
 both true b is = (refl, is)
@@ -63,15 +74,147 @@ made_each : (list : List Definition) → list_all is_made list ≡ true → All 
 made_each [] is = All-nil IsMade
 made_each (definition ∷ list) is =
     let here = both (is_made definition) (list_all is_made list) is in
-    let fields = both (is_zero definition.priority) (is_raw definition.source) here.0 in
+    let fields = both (is_zero definition.priority) (is_raw definition.source && is_none definition.id) here.0 in
+    let source = both (is_raw definition.source) (is_none definition.id) fields.1 in
     All-cons IsMade definition list
-    (record { priority = zero_is definition.priority fields.0; source = raw_is definition.source fields.1 }) (made_each list here.1)
+    (record { priority = zero_is definition.priority fields.0; source = raw_is definition.source source.0 }) (made_each list here.1)
+
+-- none is dropped, and none has an identifier
+kept_each : (list : List Definition) → All IsMade list → AreNeverDropped list
+kept_each list made =
+    All-weaker IsMade (λ (definition : Definition). int_le definition.priority (pos 0) ≡ true)
+    (λ definition is. ap (λ (z : ℤ). int_le z (pos 0)) is.priority) list made
+
+none_is : (o : Option Guid) → is_none o ≡ true → o ≡ None
+none_is None is = refl
+none_is (Some id) is = absurd (cc)
+
+takes_half : (v : Verity) (definition : Definition) → definition.id ≡ None → TakesHalf v definition
+takes_half Off definition is = tt
+takes_half (Data hash) definition is = is
+takes_half (Hash under) definition is = is
+
+halves_each : (list : List Definition) → list_all is_made list ≡ true → TakeHalves list
+halves_each [] is = All-nil (λ (definition : Definition). TakesHalf definition.verity definition)
+halves_each (definition ∷ list) is =
+    let here = both (is_made definition) (list_all is_made list) is in
+    let fields = both (is_zero definition.priority) (is_raw definition.source && is_none definition.id) here.0 in
+    let id = none_is definition.id (both (is_raw definition.source) (is_none definition.id) fields.1).1 in
+    All-cons (λ (d : Definition). TakesHalf d.verity d) definition list (takes_half definition.verity definition id)
+    (halves_each list here.1)
+
+-- what passes one by one, with its place
+placed_each : (p : ℕ × Definition → Bool) (n : ℕ) (list : List Definition) → list_all p (enumerate_from n list) ≡ true
+    → (k m : ℕ) (definition : Definition) → m ≡ n + k → slice_get list k ≡ Some definition → p (m, definition) ≡ true
+placed_each p n [] is k m definition place at = absurd (cc)
+placed_each p n (d ∷ list) is zero m definition place at =
+    let same : d ≡ definition = cc in
+    let first : m ≡ n = omega (arith, place) in
+    ap (λ (k : ℕ). p (k, definition)) first ∙ ap (λ (x : Definition). p (n, x)) (sym same)
+    ∙ (both (p (n, d)) (list_all p (enumerate_from (n + 1) list)) is).0
+placed_each p n (d ∷ list) is (suc k) m definition place at =
+    placed_each p (n + 1) list (both (p (n, d)) (list_all p (enumerate_from (n + 1) list)) is).1 k m definition (omega (arith, place)) at
+
+data_is : (place : ℕ) (v : Verity) → is_data place v ≡ true → v ≡ Data place
+data_is place (Data hash) is = ap (λ (n : ℕ). Data n) (eqb-true hash place is)
+data_is place Off is = absurd (cc)
+data_is place (Hash under) is = absurd (cc)
+
+-- which of three passes
+one_of_three : (a b c : Bool) → (a || b || c) ≡ true → (a ≡ true) ⊎ ((b ≡ true) ⊎ (c ≡ true))
+one_of_three true b c is = inl refl
+one_of_three false true c is = inr (inl refl)
+one_of_three false false c is = inr (inr is)
+
+same_kind : (a b : Guid) → bytes_eq a.0 b.0 ≡ true → a ≡ b
+same_kind a b is = ap (λ (bytes : List ℕ). record { 0 = bytes }) ((bytes_eq-Decides a.0 b.0).0 is)
+
+-- of which designators the types are
+generic_root : is_of X86_64 Root generic ≡ false
+unfolding designator_of entry_of types guid_of by_index
+generic_root = refl
+
+generic_tree : is_of X86_64 RootVerity generic ≡ false
+unfolding designator_of entry_of types guid_of by_index
+generic_tree = refl
+
+generic_usr : is_of X86_64 Usr generic ≡ false
+unfolding designator_of entry_of types guid_of by_index
+generic_usr = refl
+
+root_isnt_tree : is_of X86_64 RootVerity root ≡ false
+unfolding designator_of entry_of types guid_of by_index
+root_isnt_tree = refl
+
+root_isnt_usr : is_of X86_64 Usr root ≡ false
+unfolding designator_of entry_of types guid_of by_index
+root_isnt_usr = refl
+
+tree_isnt_root : is_of X86_64 Root root_tree ≡ false
+unfolding designator_of entry_of types guid_of by_index
+tree_isnt_root = refl
+
+tree_isnt_usr : is_of X86_64 Usr root_tree ≡ false
+unfolding designator_of entry_of types guid_of by_index
+tree_isnt_usr = refl
+
+no_type : (d : Designator) (kind other : Guid) → bytes_eq kind.0 other.0 ≡ true → is_of X86_64 d other ≡ false
+    → is_of X86_64 d kind ≡ true → ⊥
+no_type d kind other same none is = let clash : true ≡ false = sym is ∙ ap (is_of X86_64 d) (same_kind kind other same) ∙ none in cc
+
+module _ (place : ℕ) (list : List Definition) (is : list_all (is_paired place) (enumerate_from 0 list) ≡ true) where
+  which : (i : ℕ) (definition : Definition) → slice_get list i ≡ Some definition
+      → (bytes_eq definition.kind.0 generic.0 ≡ true) ⊎ (((bytes_eq definition.kind.0 root_tree.0 && (i == place)) ≡ true)
+      ⊎ ((bytes_eq definition.kind.0 root.0 && is_data place definition.verity) ≡ true))
+  which i definition at = one_of_three _ _ _ (placed_each (is_paired place) 0 list is i i definition (sym (zero-add i)) at)
+
+  data_there : (i : ℕ) (definition : Definition) → slice_get list i ≡ Some definition → is_of X86_64 Root definition.kind ≡ true
+      → definition.verity ≡ Data place
+  data_there i definition at of_root = elim (which i definition at) [
+    | inl same ↦ absurd (no_type Root definition.kind generic same generic_root of_root)
+    | inr (inl tree) ↦ absurd (no_type Root definition.kind root_tree (both _ _ tree).0 tree_isnt_root of_root)
+    | inr (inr payload) ↦ data_is place definition.verity (both _ _ payload).1
+  ]
+
+  tree_there : (i : ℕ) (definition : Definition) → slice_get list i ≡ Some definition → is_of X86_64 RootVerity definition.kind ≡ true
+      → i ≡ place
+  tree_there i definition at of_tree = elim (which i definition at) [
+    | inl same ↦ absurd (no_type RootVerity definition.kind generic same generic_tree of_tree)
+    | inr (inl tree) ↦ eqb-true i place (both _ _ tree).1
+    | inr (inr payload) ↦ absurd (no_type RootVerity definition.kind root (both _ _ payload).0 root_isnt_tree of_tree)
+  ]
+
+  none_of_usr : (i : ℕ) (definition : Definition) → slice_get list i ≡ Some definition → is_of X86_64 Usr definition.kind ≡ true → ⊥
+  none_of_usr i definition at of_usr = elim (which i definition at) [
+    | inl same ↦ no_type Usr definition.kind generic same generic_usr of_usr
+    | inr (inl tree) ↦ no_type Usr definition.kind root_tree (both _ _ tree).0 tree_isnt_usr of_usr
+    | inr (inr payload) ↦ no_type Usr definition.kind root (both _ _ payload).0 root_isnt_usr of_usr
+  ]
+
+  sealed_all : AreSealed X86_64 list
+  sealed_all = (
+    λ i j payload hash at there of_root of_tree.
+        data_there i payload at of_root ∙ ap (λ (n : ℕ). Data n) (sym (tree_there j hash there of_tree)),
+    λ i j payload hash at there of_usr of_tree. absurd (none_of_usr i payload at of_usr),
+  )
 
 by_answer : (number : ℕ) (r : Result Definitions Refusal) → is_right number r ≡ true → (definitions : Definitions)
-    × (r ≡ Ok definitions) × (length definitions.list ≡ number + 2) × All IsMade definitions.list
+    × (r ≡ Ok definitions) × (length definitions.list ≡ number + 2) × All IsMade definitions.list × AreSteady X86_64 definitions.list
 by_answer number (Ok definitions) is =
-    let parts = both (length definitions.list == number + 2) (list_all is_made definitions.list) is in
-    (definitions, refl, eqb-true (length definitions.list) (number + 2) parts.0, made_each definitions.list parts.1)
+    let parts = both (length definitions.list == number + 2)
+    (list_all is_made definitions.list && list_all (is_paired number) (enumerate_from 0 definitions.list)) is in
+    let lists = both (list_all is_made definitions.list) (list_all (is_paired number) (enumerate_from 0 definitions.list)) parts.1 in
+    let made = made_each definitions.list lists.0 in (
+      definitions,
+      refl,
+      eqb-true (length definitions.list) (number + 2) parts.0,
+      made,
+      record {
+        kept = kept_each definitions.list made;
+        halves = halves_each definitions.list lists.0;
+        sealed = sealed_all number definitions.list lists.1;
+      },
+    )
 by_answer number (Err refusal) is = absurd (cc)
 
 -- each number has definitions
@@ -82,4 +225,5 @@ has_definitions number high =
       are = ap (λ (t : Tree). definitions_in X86_64 t folders_of) (tree_is number (omega arith)) ∙ found.1;
       count = found.2;
       each = found.3;
+      steady = found.4;
     }
