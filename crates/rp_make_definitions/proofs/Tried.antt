@@ -1,6 +1,6 @@
 -- What the files of each number say, by computing it.
-use Rattle.std.proofs.Common.{◌≡◌, ℕ, zero, suc, ◌+◌, ◌*◌, ◌/◌, ◌%◌, ℤ, pos, negsuc, Bool, true, false, Result, Ok, Err, List, [], ◌∷◌, ◌++◌, refl, length, Option, Some, None}
-use Rattle.std.specs.Prelude.{codes, ◌&&◌, ◌==◌}
+use Rattle.std.proofs.Common.{◌≡◌, ℕ, zero, suc, ◌+◌, ℤ, pos, negsuc, Bool, true, false, Result, Ok, Err, List, refl, length, Option, Some, None}
+use Rattle.std.specs.Prelude.{codes, slice_get, ◌&&◌, ◌==◌}
 use Rattle.std.specs.List.{list_all}
 use Rattle.std.specs.Str.{bytes_eq, chars, is_utf8}
 use Rattle.rp_defs.specs.Records.{records}
@@ -8,15 +8,20 @@ use Rattle.rp_defs.specs.Settings.{groups_of}
 use Rattle.rp_defs.specs.Stated.{stated_by}
 use Rattle.rp_defs.specs.declared.definition.Definition.{Definition}
 use Rattle.rp_defs.specs.declared.definition.Definitions.{Definitions}
+use Rattle.rp_defs.specs.declared.definition.Verity.{Verity}
+use Rattle.rp_defs.specs.declared.definition.Verity.TheVariants.{Data, Hash, Off}
 use Rattle.rp_make_input.specs.MakeInput.{folders_of}
 use Rattle.rp_outcome.specs.Refusals.{Refusal}
 use Rattle.rp_reading.specs.Reading.{definitions_in}
+use Rattle.rp_types.specs.Guids.{guid_of}
 use Rattle.rp_types.specs.Table.{types}
 use Rattle.rp_types.specs.Types.{by_name}
 use Rattle.rp_types.specs.declared.arch.Arch.TheVariants.{X86_64}
 use Rattle.rp_values.specs.Kinds.{kind_of}
 use Rattle.rp_values.specs.Numbers.{size_of, weight_of}
 use Rattle.rp_values.specs.Texts.{expanded, path_of}
+use Rattle.uuid.specs.Text.{by_index}
+use Rattle.rp_make_definitions.specs.Made.{first_data, root_kind}
 use Rattle.rp_make_definitions.proofs.Spelled.{tree}
 
 abbrev pub is_zero : ℤ → Bool
@@ -31,8 +36,32 @@ is_raw (Some path) = bytes_eq path (codes "make.raw")
 abbrev pub is_made : Definition → Bool
 is_made definition = is_zero definition.priority && is_raw definition.source
 
+abbrev pub is_there : Option (List ℕ) → Bool
+is_there None = false
+is_there (Some path) = bytes_eq path (codes "make.raw")
+
+abbrev pub is_half : ℕ → Verity → Bool
+is_half partner Off = false
+is_half partner (Data other) = other == partner
+is_half partner (Hash other) = false
+
+abbrev pub is_data : ℕ → Definition → Bool
+is_data partner payload = bytes_eq payload.kind.0 root_kind.0 && is_there payload.source && payload.want.min == 0 && is_half partner payload.verity
+
+abbrev pub is_data_at : ℕ → Option Definition → Bool
+is_data_at partner None = false
+is_data_at partner (Some payload) = is_data partner payload
+
+abbrev pub is_place : ℕ → Option ℕ → Bool
+is_place place None = false
+is_place place (Some other) = other == place
+
+abbrev pub is_paired : ℕ → List Definition → Bool
+is_paired number list = is_data_at number (slice_get list (number + 1)) && is_place (number + 1) (first_data list)
+
 abbrev pub is_right : ℕ → Result Definitions Refusal → Bool
-is_right number (Ok definitions) = length definitions.list == number + 2 && list_all is_made definitions.list
+is_right number (Ok definitions) =
+    length definitions.list == number + 2 && list_all is_made definitions.list && is_paired number definitions.list
 is_right number (Err refusal) = false
 
 abbrev pub right : ℕ → Bool
@@ -44,45 +73,45 @@ right_behind first zero = true
 right_behind first (suc count) = right (first + suc count) && right_behind first count
 
 pub tried_none : right 0 ≡ true
-unfolding records stated_by groups_of is_utf8 chars kind_of weight_of size_of path_of expanded by_name types lib.Utf8.encode
+unfolding records stated_by groups_of is_utf8 chars kind_of weight_of size_of path_of expanded by_name types guid_of by_index lib.Utf8.encode
 tried_none = refl
 
 pub tried_0 : right_behind 0 10 ≡ true
-unfolding records stated_by groups_of is_utf8 chars kind_of weight_of size_of path_of expanded by_name types lib.Utf8.encode
+unfolding records stated_by groups_of is_utf8 chars kind_of weight_of size_of path_of expanded by_name types guid_of by_index lib.Utf8.encode
 tried_0 = refl
 
 pub tried_10 : right_behind 10 10 ≡ true
-unfolding records stated_by groups_of is_utf8 chars kind_of weight_of size_of path_of expanded by_name types lib.Utf8.encode
+unfolding records stated_by groups_of is_utf8 chars kind_of weight_of size_of path_of expanded by_name types guid_of by_index lib.Utf8.encode
 tried_10 = refl
 
 pub tried_20 : right_behind 20 10 ≡ true
-unfolding records stated_by groups_of is_utf8 chars kind_of weight_of size_of path_of expanded by_name types lib.Utf8.encode
+unfolding records stated_by groups_of is_utf8 chars kind_of weight_of size_of path_of expanded by_name types guid_of by_index lib.Utf8.encode
 tried_20 = refl
 
 pub tried_30 : right_behind 30 10 ≡ true
-unfolding records stated_by groups_of is_utf8 chars kind_of weight_of size_of path_of expanded by_name types lib.Utf8.encode
+unfolding records stated_by groups_of is_utf8 chars kind_of weight_of size_of path_of expanded by_name types guid_of by_index lib.Utf8.encode
 tried_30 = refl
 
 pub tried_40 : right_behind 40 10 ≡ true
-unfolding records stated_by groups_of is_utf8 chars kind_of weight_of size_of path_of expanded by_name types lib.Utf8.encode
+unfolding records stated_by groups_of is_utf8 chars kind_of weight_of size_of path_of expanded by_name types guid_of by_index lib.Utf8.encode
 tried_40 = refl
 
 pub tried_50 : right_behind 50 10 ≡ true
-unfolding records stated_by groups_of is_utf8 chars kind_of weight_of size_of path_of expanded by_name types lib.Utf8.encode
+unfolding records stated_by groups_of is_utf8 chars kind_of weight_of size_of path_of expanded by_name types guid_of by_index lib.Utf8.encode
 tried_50 = refl
 
 pub tried_60 : right_behind 60 10 ≡ true
-unfolding records stated_by groups_of is_utf8 chars kind_of weight_of size_of path_of expanded by_name types lib.Utf8.encode
+unfolding records stated_by groups_of is_utf8 chars kind_of weight_of size_of path_of expanded by_name types guid_of by_index lib.Utf8.encode
 tried_60 = refl
 
 pub tried_70 : right_behind 70 10 ≡ true
-unfolding records stated_by groups_of is_utf8 chars kind_of weight_of size_of path_of expanded by_name types lib.Utf8.encode
+unfolding records stated_by groups_of is_utf8 chars kind_of weight_of size_of path_of expanded by_name types guid_of by_index lib.Utf8.encode
 tried_70 = refl
 
 pub tried_80 : right_behind 80 10 ≡ true
-unfolding records stated_by groups_of is_utf8 chars kind_of weight_of size_of path_of expanded by_name types lib.Utf8.encode
+unfolding records stated_by groups_of is_utf8 chars kind_of weight_of size_of path_of expanded by_name types guid_of by_index lib.Utf8.encode
 tried_80 = refl
 
 pub tried_90 : right_behind 90 10 ≡ true
-unfolding records stated_by groups_of is_utf8 chars kind_of weight_of size_of path_of expanded by_name types lib.Utf8.encode
+unfolding records stated_by groups_of is_utf8 chars kind_of weight_of size_of path_of expanded by_name types guid_of by_index lib.Utf8.encode
 tried_90 = refl

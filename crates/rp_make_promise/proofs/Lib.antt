@@ -1,0 +1,5 @@
+pub mod Blank
+pub mod Planned
+pub mod Rows
+pub mod Summed
+pub mod Went
