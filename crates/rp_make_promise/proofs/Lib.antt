@@ -1,5 +1,8 @@
 pub mod Blank
+pub mod Leaving
 pub mod Planned
+pub mod Reached
+pub mod Room
 pub mod Rows
 pub mod Summed
 pub mod Went
