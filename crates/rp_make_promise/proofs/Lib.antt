@@ -1,4 +1,5 @@
 pub mod Blank
+pub mod Complete
 pub mod Leaving
 pub mod Planned
 pub mod Reached

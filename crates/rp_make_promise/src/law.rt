@@ -6,6 +6,7 @@ ghost use Rattle.rp_disk.specs.History.{held};
 ghost use Rattle.rp_disk.specs.Made.{history_of};
 ghost use Rattle.rp_disk.specs.Runs.{MadeFirst};
 ghost use Rattle.rp_make_command.specs.Makes.{Makes};
+ghost use Rattle.rp_make_promise.specs.Complete.{HasReason};
 ghost use Rattle.rp_make_promise.specs.Leaves.{IsLeftInMaking, LeavesGoal, make_calls};
 ghost use Rattle.rp_make_promise.specs.Told.{TellsSummary};
 ghost use Rattle.rp_outcome.specs.Device.{Device};
@@ -34,4 +35,12 @@ pub fn make_leaves_the_goal()
     ensures done { (number : ℕ) (disk later : Device) (out after : Output) (status : ℕ)
         → Makes number disk later out after status → (bytes : List ℕ) → disk.first ≡ Some bytes → status ≡ exit.done
         → LeavesGoal number disk later bytes }
+{}
+
+/// Where the disk tells its bytes, each status but 0, 1, 4, 5 and 10 comes with a call of disk or sink that failed: 7 and 9. No other
+/// comes: the definitions of a number are there, and so is its source, which doesn't change.
+pub fn make_is_complete()
+    ensures { (number : ℕ) (disk later : Device) (out after : Output) (status : ℕ) → number ≤ 100
+        → Makes number disk later out after status → (bytes : List ℕ) → disk.first ≡ Some bytes
+        → HasReason disk later out after status }
 {}
