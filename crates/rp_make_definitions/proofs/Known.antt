@@ -23,9 +23,9 @@ use Rattle.rp_types.specs.declared.arch.Designator.{Designator}
 use Rattle.rp_types.specs.declared.arch.Designator.TheVariants.{Root, Usr, RootVerity}
 use Rattle.uuid.specs.Text.{by_index}
 use Rattle.rp_unchanged.specs.Defined.{AreNeverDropped, AreSealed, AreSteady, TakeHalves, TakesHalf, is_of}
-use Rattle.rp_make_definitions.specs.Made.{HasDefinitions, IsMade}
+use Rattle.rp_make_definitions.specs.Made.{HasDefinitions, HasPair, IsMade, first_data, root_kind}
 use Rattle.rp_make_definitions.proofs.Spelled.{tree, tree_is}
-use Rattle.rp_make_definitions.proofs.Tried.{generic, is_data, is_made, is_paired, is_raw, is_right, is_zero, right, right_behind, root, root_tree, tried_none, tried_0, tried_10, tried_20, tried_30, tried_40, tried_50, tried_60, tried_70, tried_80, tried_90}
+use Rattle.rp_make_definitions.proofs.Tried.{generic, has_pair_at, is_data, is_made, is_paired, is_payload_at, is_place, is_raw, is_there, is_right, is_zero, right, right_behind, root, root_tree, tried_none, tried_0, tried_10, tried_20, tried_30, tried_40, tried_50, tried_60, tried_70, tried_80, tried_90}
 
 both : (a b : Bool) → (a && b) ≡ true → (a ≡ true) × (b ≡ true)
 both true b is = (refl, is)
@@ -198,22 +198,57 @@ module _ (place : ℕ) (list : List Definition) (is : list_all (is_paired place)
     λ i j payload hash at there of_usr of_tree. absurd (none_of_usr i payload at of_usr),
   )
 
+-- the pair, with its source
+there_is : (o : Option (List ℕ)) → is_there o ≡ true → o ≡ Some (codes "make.raw")
+there_is None is = absurd (cc)
+there_is (Some path) is = ap (λ (p : List ℕ). Some p) ((bytes_eq-Decides path (codes "make.raw")).0 is)
+
+place_is : (place : ℕ) (o : Option ℕ) → is_place place o ≡ true → o ≡ Some place
+place_is place None is = absurd (cc)
+place_is place (Some other) is = ap (λ (n : ℕ). Some n) (eqb-true other place is)
+
+payload_is : (number : ℕ) (list : List Definition) (o : Option Definition) → slice_get list (number + 1) ≡ o → is_payload_at number o ≡ true
+    → first_data list ≡ Some (number + 1) → HasPair number list
+payload_is number list None at is first = absurd (cc)
+payload_is number list (Some payload) at is first =
+    let a = both (bytes_eq payload.kind.0 root_kind.0 && is_there payload.source && payload.want.min == 0) (is_data number payload.verity) is in
+    let b = both (bytes_eq payload.kind.0 root_kind.0 && is_there payload.source) (payload.want.min == 0) a.0 in
+    let c = both (bytes_eq payload.kind.0 root_kind.0) (is_there payload.source) b.0 in record {
+      payload = payload;
+      there = at;
+      kind = ap (λ (bytes : List ℕ). record { 0 = bytes }) ((bytes_eq-Decides payload.kind.0 root_kind.0).0 c.0);
+      source = there_is payload.source c.1;
+      least = eqb-true payload.want.min 0 b.1;
+      half = data_is number payload.verity a.1;
+      first = first;
+    }
+
+pair_is : (number : ℕ) (list : List Definition) → has_pair_at number list ≡ true → HasPair number list
+pair_is number list is =
+    let a = both (is_payload_at number (slice_get list (number + 1))) (is_place (number + 1) (first_data list)) is in
+    payload_is number list (slice_get list (number + 1)) refl a.0 (place_is (number + 1) (first_data list) a.1)
+
 by_answer : (number : ℕ) (r : Result Definitions Refusal) → is_right number r ≡ true → (definitions : Definitions)
     × (r ≡ Ok definitions) × (length definitions.list ≡ number + 2) × All IsMade definitions.list × AreSteady X86_64 definitions.list
+    × HasPair number definitions.list
 by_answer number (Ok definitions) is =
-    let parts = both (length definitions.list == number + 2)
-    (list_all is_made definitions.list && list_all (is_paired number) (enumerate_from 0 definitions.list)) is in
-    let lists = both (list_all is_made definitions.list) (list_all (is_paired number) (enumerate_from 0 definitions.list)) parts.1 in
-    let made = made_each definitions.list lists.0 in (
+    let a = both (length definitions.list == number + 2)
+    (list_all is_made definitions.list
+    && (list_all (is_paired number) (enumerate_from 0 definitions.list) && has_pair_at number definitions.list)) is in
+    let b = both (list_all is_made definitions.list)
+    (list_all (is_paired number) (enumerate_from 0 definitions.list) && has_pair_at number definitions.list) a.1 in
+    let c = both (list_all (is_paired number) (enumerate_from 0 definitions.list)) (has_pair_at number definitions.list) b.1 in
+    let made = made_each definitions.list b.0 in (
       definitions,
       refl,
-      eqb-true (length definitions.list) (number + 2) parts.0,
+      eqb-true (length definitions.list) (number + 2) a.0,
       made,
       record {
         kept = kept_each definitions.list made;
-        halves = halves_each definitions.list lists.0;
-        sealed = sealed_all number definitions.list lists.1;
+        halves = halves_each definitions.list b.0;
+        sealed = sealed_all number definitions.list c.0;
       },
+      pair_is number definitions.list c.1,
     )
 by_answer number (Err refusal) is = absurd (cc)
 
@@ -226,4 +261,5 @@ has_definitions number high =
       count = found.2;
       each = found.3;
       steady = found.4;
+      pair = found.5;
     }

@@ -1,6 +1,6 @@
 -- What the files of each number say, by computing it.
 use Rattle.std.proofs.Common.{◌≡◌, ℕ, zero, suc, ◌+◌, ℤ, pos, negsuc, Bool, true, false, Result, Ok, Err, List, [], ◌∷◌, refl, length, Option, Some, None}
-use Rattle.std.specs.Prelude.{codes, is_none, ◌&&◌, ◌||◌, ◌==◌}
+use Rattle.std.specs.Prelude.{codes, is_none, slice_get, ◌&&◌, ◌||◌, ◌==◌}
 use Rattle.std.specs.List.{enumerate_from, list_all}
 use Rattle.std.specs.Str.{bytes_eq, chars, is_utf8}
 use Rattle.rp_base.specs.declared.guid.Guid.{Guid}
@@ -22,6 +22,7 @@ use Rattle.rp_values.specs.Kinds.{kind_of}
 use Rattle.rp_values.specs.Numbers.{size_of, weight_of}
 use Rattle.rp_values.specs.Texts.{expanded, path_of}
 use Rattle.uuid.specs.Text.{by_index}
+use Rattle.rp_make_definitions.specs.Made.{first_data, root_kind}
 use Rattle.rp_make_definitions.proofs.Spelled.{tree}
 
 abbrev pub is_zero : ℤ → Bool
@@ -58,9 +59,29 @@ is_paired place e =
     bytes_eq e.1.kind.0 generic.0 || (bytes_eq e.1.kind.0 root_tree.0 && (e.0 == place))
     || (bytes_eq e.1.kind.0 root.0 && is_data place e.1.verity)
 
+-- the data of the pair, behind so many definitions and one, and that the first hash tree is over it
+abbrev pub is_there : Option (List ℕ) → Bool
+is_there None = false
+is_there (Some path) = bytes_eq path (codes "make.raw")
+
+abbrev pub is_payload : ℕ → Definition → Bool
+is_payload partner payload = bytes_eq payload.kind.0 root_kind.0 && is_there payload.source && payload.want.min == 0 && is_data partner payload.verity
+
+abbrev pub is_payload_at : ℕ → Option Definition → Bool
+is_payload_at partner None = false
+is_payload_at partner (Some payload) = is_payload partner payload
+
+abbrev pub is_place : ℕ → Option ℕ → Bool
+is_place place None = false
+is_place place (Some other) = other == place
+
+abbrev pub has_pair_at : ℕ → List Definition → Bool
+has_pair_at number list = is_payload_at number (slice_get list (number + 1)) && is_place (number + 1) (first_data list)
+
 abbrev pub is_right : ℕ → Result Definitions Refusal → Bool
 is_right number (Ok definitions) = length definitions.list == number + 2
-    && (list_all is_made definitions.list && list_all (is_paired number) (enumerate_from 0 definitions.list))
+    && (list_all is_made definitions.list
+    && (list_all (is_paired number) (enumerate_from 0 definitions.list) && has_pair_at number definitions.list))
 is_right number (Err refusal) = false
 
 abbrev pub right : ℕ → Bool

@@ -1,0 +1,258 @@
+-- What a run of `make` leaves, by how far it came.
+use Rattle.std.proofs.Common.{ℕ, ◌≡◌, ◌⊎◌, ◌∙◌, ◌++◌, Bool, true, false, cond, List, [], ◌∷◌, Option, Some, Result, Ok, length, refl, sym, ap, subst, inl, inr, append_assoc, arith}
+use Rattle.std.specs.Prelude.{IfSome, nat_lt}
+use Rattle.rp_apply_command.specs.Ends.{AtEachMoment, AtTheEnd, Given}
+use Rattle.rp_apply_command.proofs.Goals.{only_read}
+use Rattle.rp_apply_command.proofs.Moments.{carries_all}
+use Rattle.rp_apply_command.proofs.Runs.{same_shown}
+use Rattle.rp_defs.specs.declared.definition.Definition.{Definition}
+use Rattle.rp_defs.specs.declared.definition.Definitions.{Definitions}
+use Rattle.rp_disk.specs.History.{MayLeave, held}
+use Rattle.rp_disk.specs.Made.{Made, dones, history_of}
+use Rattle.rp_disk.specs.Runs.{MadeFirst}
+use Rattle.rp_disk.specs.Stops.{IsFrontOf, Leaves}
+use Rattle.rp_disk.specs.declared.call.Call.{Call}
+use Rattle.rp_disk.specs.declared.call.Call.TheVariants.{SetLen, Sync}
+use Rattle.rp_disk.proofs.Runs.{any_moment_behind_sync, dones-append, more}
+use Rattle.rp_gpt.specs.declared.table_fault.Empty.TheVariants.{Require}
+use Rattle.rp_headline.specs.Left.{IsDoneWith}
+use Rattle.rp_headline.proofs.Public.{are_calls_of, rows_filled}
+use Rattle.rp_idle.proofs.Public.{plan_for}
+use Rattle.rp_io.specs.declared.stored.Stored.{Stored}
+use Rattle.rp_make_command.specs.Makes.{Makes, made_store, make_request}
+use Rattle.rp_make_input.specs.MakeInput.{seed_of, source_files}
+use Rattle.rp_make_room.specs.Room.{growth_calls, length_made, room_in}
+use Rattle.rp_outcome.specs.Device.{Device}
+use Rattle.rp_outcome.specs.Output.{Output}
+use Rattle.rp_outcome.specs.Refusals.{Refusal}
+use Rattle.rp_planned.specs.Planning.{target_of}
+use Rattle.rp_planned.specs.declared.planned.Planned.{Planned}
+use Rattle.rp_steps.specs.Calls.{calls as calls_for, contents_calls}
+use Rattle.rp_steps.specs.Contents.{Sources}
+use Rattle.rp_stops.specs.Honest.{IsTornHonest}
+use Rattle.rp_stops.specs.Safe.{IsSafe}
+use Rattle.rp_stops.proofs.Carried.{alone}
+use Rattle.rp_stops.proofs.Whole.{whole_sectors-honest}
+use Rattle.rp_make_promise.specs.Leaves.{IsLeftInMaking, LeavesGoal, calls_behind, calls_planned, contents_for, grown_image, make_calls, planned_for}
+use Rattle.rp_make_promise.proofs.Reached.{Carried, Reached, exact, planned_so, reached, room_told}
+use Rattle.rp_make_promise.proofs.Room.{held_grown, longer, room_length, same_grown}
+use Rattle.rp_make_promise.proofs.Went.{Went, went}
+
+-- the calls of an image that may be grown
+calls_grown : (number : ℕ) (old : List ℕ) (len : ℕ) → room_in old ≡ Ok len
+    → make_calls number old ≡ (Sync ∷ growth_calls len) ++ calls_planned number (planned_for number (grown_image old))
+calls_grown number old len room = ap (λ (r : Result ℕ Refusal). Sync ∷ calls_behind number old r) room
+
+calls_carried : (number : ℕ) (old : List ℕ) (len : ℕ) (definitions : Definitions) (planned : Planned) → room_in old ≡ Ok len
+    → planned_for number (grown_image old) ≡ Ok (definitions, planned)
+    → make_calls number old ≡ (Sync ∷ growth_calls len) ++ calls_for planned.plan planned.seen (Given definitions.list (source_files number))
+calls_carried number old len definitions planned room goal =
+    calls_grown number old len room
+    ∙ ap (λ (r : Result (Definitions × Planned) Refusal). (Sync ∷ growth_calls len) ++ calls_planned number r) goal
+
+-- the first of the calls that make it were made
+called_so : (number : ℕ) (old : List ℕ) (before now : List Made) → Reached number old before now → MadeFirst before (make_calls number old) now
+called_so number old before now (inl made) = longer before now (Sync ∷ []) (calls_behind number old (room_in old)) made
+called_so number old before now (inr (inl (len, room, made))) =
+    subst (λ (l : List Call). MadeFirst before l now) (sym (calls_grown number old len room))
+    (longer before now (Sync ∷ growth_calls len) (calls_planned number (planned_for number (grown_image old))) made)
+called_so number old before now (inr (inr c)) =
+    subst (λ (l : List Call). MadeFirst before l now) (sym (calls_carried number old c.len c.definitions c.planned c.room c.goal)) c.made
+
+-- the front of none is the front of any
+front_of_none : (more any : List Call) → IsFrontOf more [] → IsFrontOf more any
+front_of_none more any front =
+    (front.0 ++ any, sym (append_assoc more front.0 any) ∙ ap (λ (l : List Call). l ++ any) front.1)
+
+-- calls that begin a growth and more are within it, or behind it
+abbrev Splits : List Call → List Call → List Call → Type 0
+Splits more growth calls = IsFrontOf more growth ⊎ ((rest : List Call) × (more ≡ growth ++ rest) × IsFrontOf rest calls)
+
+same_head : (a b : Call) (x y : List Call) → ◌≡◌ {A = List Call} (a ∷ x) (b ∷ y) → a ≡ b
+same_head a b x y e = cc
+
+same_tail : (a b : Call) (x y : List Call) → ◌≡◌ {A = List Call} (a ∷ x) (b ∷ y) → x ≡ y
+same_tail a b x y e = cc
+
+splits : (more growth calls : List Call) → IsFrontOf more (growth ++ calls) → Splits more growth calls
+splits more [] calls front = inr (more, refl, front)
+splits [] (call ∷ growth) calls front = inl (call ∷ growth, refl)
+splits (one ∷ more) (call ∷ growth) calls (rest, e) = later (splits more growth calls (rest, same_tail one call (more ++ rest) (growth ++ calls) e)) where
+  same : one ≡ call
+  same = same_head one call (more ++ rest) (growth ++ calls) e
+
+  later : Splits more growth calls → Splits (one ∷ more) (call ∷ growth) calls
+  later (inl within) =
+      inl (within.0, ap (λ (c : Call). c ∷ (more ++ within.0)) same ∙ ap (λ (l : List Call). call ∷ l) within.1)
+  later (inr (behind, is, front)) =
+      inr (behind, ap (λ (c : Call). c ∷ more) same ∙ ap (λ (l : List Call). call ∷ l) is, front)
+
+-- behind the growth its image is certain
+leaves_grown : (b : Bool) (old image : List ℕ) (rest : List Call) → (b ≡ false → grown_image old ≡ old)
+    → Leaves old (cond b (SetLen length_made ∷ Sync ∷ []) [] ++ rest) image → Leaves (grown_image old) rest image
+leaves_grown true old image rest same left = left
+leaves_grown false old image rest same left = subst (λ (i : List ℕ). Leaves i rest image) (sym (same refl)) left
+
+module _ (number : ℕ) (old : List ℕ) (before now : List Made) (c : Carried number old before now) where
+  abbrev list : List Definition
+  list = c.definitions.list
+
+  abbrev given : Sources
+  given = Given c.definitions.list (source_files number)
+
+  len : c.len ≡ length old
+  len = room_length old c.len c.room
+
+  -- behind the growth a stop leaves no table or the goal
+  behind_growth : (rest : List Call) (image : List ℕ) → IsFrontOf rest (calls_for c.planned.plan c.planned.seen given)
+      → Leaves (grown_image old) rest image → IsTornHonest 512 (grown_image old) rest image
+      → IsSafe 512 (grown_image old) c.planned.seen c.planned.plan (contents_for number (grown_image old) c.definitions c.planned) image
+  behind_growth rest image front left honest =
+      let target = target_of 0 c.planned.seen in
+      (alone 512 (grown_image old) Require c.planned.seen c.planned.plan (contents_calls c.planned.plan given)
+      (calls_for c.planned.plan c.planned.seen given) rest image
+      (plan_for 512 (grown_image old) Require c.planned.seen target list c.known.0 (seed_of number) c.planned.plan c.known.1)
+      (are_calls_of 512 (grown_image old) Require c.planned.seen target list c.known.0 (seed_of number) c.planned.plan c.known.1 given c.fits.notes)
+      front left honest).holds (contents_for number (grown_image old) c.definitions c.planned)
+      (rows_filled 512 (grown_image old) Require c.planned.seen target list c.known.0 (seed_of number) c.planned.plan c.known.1 given c.fits.notes)
+
+  left_so : (more : List Call) (image : List ℕ)
+      → IsFrontOf more (growth_calls c.len ++ calls_for c.planned.plan c.planned.seen given) → Leaves old more image
+      → IsLeftInMaking number old more image
+  left_so more image front left = by (splits more (growth_calls c.len) (calls_for c.planned.plan c.planned.seen given) front) where
+    by : Splits more (growth_calls c.len) (calls_for c.planned.plan c.planned.seen given) → IsLeftInMaking number old more image
+    by (inl within) = inl (subst (λ (n : ℕ). IsFrontOf more (growth_calls n)) len within, left)
+    by (inr (rest, is, front)) =
+        let after : Leaves (grown_image old) rest image =
+        leaves_grown (nat_lt c.len length_made) old image rest (same_grown old c.len len c.short)
+        (subst (λ (l : List Call). Leaves old l image) is left) in
+        inr (record {
+          definitions = c.definitions;
+          planned = c.planned;
+          goal = c.goal;
+          rest = rest;
+          behind = is ∙ ap (λ (n : ℕ). growth_calls n ++ rest) len;
+          honest = behind_growth rest image front after;
+          whole = λ whole. behind_growth rest image front after (whole_sectors-honest 512 (grown_image old) rest image after whole);
+        })
+
+-- what a stop at any moment might have left
+left_in : (number : ℕ) (bytes : List ℕ) (disk later : Device)
+    → Reached number (held (history_of bytes disk.calls)) disk.calls later.calls
+    → AtEachMoment bytes disk later (IsLeftInMaking number (held (history_of bytes disk.calls)))
+left_in number bytes disk later (inl reached) = λ made image since.
+    elim (any_moment_behind_sync (Some bytes) disk.calls later.calls [] reached made image since) [
+      | inl before ↦ inl before
+      | inr (rest, is, front, left) ↦ inr (rest, is, inl (front_of_none rest (growth_calls (length (held (history_of bytes disk.calls)))) front, left))
+    ]
+left_in number bytes disk later (inr (inl (len, room, reached))) = λ made image since.
+    elim (any_moment_behind_sync (Some bytes) disk.calls later.calls (growth_calls len) reached made image since) [
+      | inl before ↦ inl before
+      | inr (rest, is, front, left) ↦
+          inr (
+            rest,
+            is,
+            inl (subst (λ (n : ℕ). IsFrontOf rest (growth_calls n)) (room_length (held (history_of bytes disk.calls)) len room) front, left),
+          )
+    ]
+left_in number bytes disk later (inr (inr c)) = λ made image since.
+    elim (any_moment_behind_sync (Some bytes) disk.calls later.calls
+    (growth_calls c.len ++ calls_for c.planned.plan c.planned.seen (Given c.definitions.list (source_files number))) c.made made image since) [
+      | inl before ↦ inl before
+      | inr (rest, is, front, left) ↦
+          inr (rest, is, left_so number (held (history_of bytes disk.calls)) disk.calls later.calls c rest image front left)
+    ]
+
+-- a growth and its sync
+abbrev growth_before : Bool → List Call
+growth_before b = cond b (Sync ∷ SetLen length_made ∷ []) []
+
+one_sync : (b : Bool) → Sync ∷ cond b (SetLen length_made ∷ Sync ∷ []) [] ≡ growth_before b ++ Sync ∷ []
+one_sync true = refl
+one_sync false = refl
+
+module _ (number : ℕ) (disk later : Device) (out after : Output) (status : ℕ) (bytes : List ℕ) (tells : disk.first ≡ Some bytes)
+    (w : Went number disk later out after) where
+  abbrev old : List ℕ
+  old = held (history_of bytes disk.calls)
+
+  abbrev files : List Stored
+  files = source_files number
+
+  room : room_in old ≡ Ok w.len
+  room = room_told number disk later out after status bytes tells w.definitions w.are w.formed w.opened w.opens w.looked w.len w.looks
+
+  behind : w.grown.calls ≡ disk.calls ++ dones (Sync ∷ growth_calls w.len)
+  behind = more disk.calls w.looked.calls w.grown.calls (Sync ∷ []) (growth_calls w.len) (w.looks.only_read.calls ∙ w.opens.ran.ok) w.grows.ran.ok
+
+  first : w.grown.first ≡ disk.first
+  first = w.grows.first ∙ w.looks.only_read.first ∙ w.opens.first
+
+  goal : planned_for number (grown_image old) ≡ Ok (w.definitions, w.planned)
+  goal = planned_so number disk later out after status bytes tells w.definitions w.are w.formed w.len room w.looks.short w.grown
+      (first ∙ tells) behind w.left w.seen w.made w.asked w.left w.planned w.calls (Ok tt) w.plans w.fits w.carries
+
+  calls_are : w.calls ≡ calls_for w.planned.plan w.planned.seen (Given w.definitions.list files)
+  calls_are = exact number disk later out after status bytes tells w.definitions w.are w.formed w.len room w.looks.short w.grown
+      (first ∙ tells) behind w.left w.seen w.made w.asked w.left w.planned w.calls (Ok tt) w.plans w.fits w.carries
+
+  only : (w.seen.first ≡ w.grown.first) × (w.seen.calls ≡ w.grown.calls)
+  only = only_read (make_request (seed_of number)) w.definitions.list w.grown w.seen (made_store files) w.asked (Ok w.planned) w.plans
+
+  -- the disk before the last sync of the growth
+  abbrev mid : Device
+  mid = record { first = disk.first; calls = disk.calls ++ dones (growth_before (nat_lt w.len length_made)); faults = 0; strays = 0 }
+
+  synced : w.grown.calls ≡ mid.calls ++ dones (Sync ∷ [])
+  synced =
+      behind ∙ ap (λ (l : List Call). disk.calls ++ dones l) (one_sync (nat_lt w.len length_made))
+      ∙ ap (λ (l : List Made). disk.calls ++ l) (dones-append (growth_before (nat_lt w.len length_made)) (Sync ∷ []))
+      ∙ sym (append_assoc disk.calls (dones (growth_before (nat_lt w.len length_made))) (dones (Sync ∷ [])))
+
+  shown : held (history_of bytes mid.calls) ≡ grown_image old
+  shown =
+      sym (same_shown bytes mid.calls) ∙ ap (λ (l : List Made). held (history_of bytes l)) (sym synced)
+      ∙ held_grown bytes disk.calls w.grown.calls w.len behind (room_length old w.len room) w.looks.short
+
+  abbrev Done : List ℕ → List ℕ → Type 0
+  Done grown image = IsDoneWith 512 grown w.planned.seen w.definitions.list (seed_of number) w.planned.plan
+      (contents_for number grown w.definitions w.planned) image
+
+  ends : AtTheEnd bytes later (Done (grown_image old))
+  ends =
+      let all = carries_all (make_request (seed_of number)) w.definitions mid w.grown w.seen w.made (made_store files) w.asked w.left w.planned
+      w.calls (Ok tt) (inl refl) refl (omega arith) w.formed w.fits first synced w.plans w.carries w.carries.ran.ok in
+      let on_disk : AtTheEnd bytes w.made (Done (held (history_of bytes mid.calls))) =
+      subst (λ (o : Option (List ℕ)). IfSome o (λ bytes. AtTheEnd bytes w.made (Done (held (history_of bytes mid.calls))))) tells all.ends_exactly in
+      subst (λ (l : List Made). (image : List ℕ) → MayLeave (history_of bytes l) image → Done (grown_image old) image) (sym w.same)
+      (subst (λ (grown : List ℕ). AtTheEnd bytes w.made (Done grown)) shown on_disk)
+
+  pub leaves_goal : LeavesGoal number disk later bytes
+  leaves_goal = record {
+    definitions = w.definitions;
+    planned = w.planned;
+    goal = goal;
+    all =
+        more disk.calls w.seen.calls later.calls (Sync ∷ growth_calls w.len) w.calls (only.1 ∙ behind) (w.same ∙ w.carries.ran.ok)
+        ∙ ap (λ (l : List Call). disk.calls ++ dones ((Sync ∷ growth_calls w.len) ++ l)) calls_are
+        ∙ ap (λ (l : List Call). disk.calls ++ dones l) (sym (calls_carried number old w.len w.definitions w.planned room goal));
+    ends = ends;
+  }
+
+-- at every status
+pub makes_first : (number : ℕ) (disk later : Device) (out after : Output) (status : ℕ) → Makes number disk later out after status
+    → (bytes : List ℕ) → disk.first ≡ Some bytes → MadeFirst disk.calls (make_calls number (held (history_of bytes disk.calls))) later.calls
+makes_first number disk later out after status makes bytes tells =
+    called_so number (held (history_of bytes disk.calls)) disk.calls later.calls (reached number disk later out after status bytes tells makes)
+
+pub leaves_in : (number : ℕ) (disk later : Device) (out after : Output) (status : ℕ) → Makes number disk later out after status
+    → (bytes : List ℕ) → disk.first ≡ Some bytes
+    → AtEachMoment bytes disk later (IsLeftInMaking number (held (history_of bytes disk.calls)))
+leaves_in number disk later out after status makes bytes tells =
+    left_in number bytes disk later (reached number disk later out after status bytes tells makes)
+
+-- where it is done
+pub leaves_so : (number : ℕ) (disk later : Device) (out after : Output) (status : ℕ) → Makes number disk later out after status
+    → (bytes : List ℕ) → disk.first ≡ Some bytes → status ≡ 0 → LeavesGoal number disk later bytes
+leaves_so number disk later out after status makes bytes tells done =
+    leaves_goal number disk later out after status bytes tells (went number disk later out after status done makes)
