@@ -143,7 +143,7 @@ left_in : (number : ℕ) (bytes : List ℕ) (disk later : Device)
 left_in number bytes disk later (inl reached) = λ made image since.
     elim (any_moment_behind_sync (Some bytes) disk.calls later.calls [] reached made image since) [
       | inl before ↦ inl before
-      | inr (rest, is, front, left) ↦ inr (rest, is, inl (front_of_none rest (growth_calls (length (held (history_of bytes disk.calls)))) front, left))
+      | inr (rest, is, front, left) ↦ inr (rest, is, left, inl (front_of_none rest (growth_calls (length (held (history_of bytes disk.calls)))) front, left))
     ]
 left_in number bytes disk later (inr (inl (len, room, reached))) = λ made image since.
     elim (any_moment_behind_sync (Some bytes) disk.calls later.calls (growth_calls len) reached made image since) [
@@ -152,6 +152,7 @@ left_in number bytes disk later (inr (inl (len, room, reached))) = λ made image
           inr (
             rest,
             is,
+            left,
             inl (subst (λ (n : ℕ). IsFrontOf rest (growth_calls n)) (room_length (held (history_of bytes disk.calls)) len room) front, left),
           )
     ]
@@ -160,7 +161,7 @@ left_in number bytes disk later (inr (inr c)) = λ made image since.
     (growth_calls c.len ++ calls_for c.planned.plan c.planned.seen (Given c.definitions.list (source_files number))) c.made made image since) [
       | inl before ↦ inl before
       | inr (rest, is, front, left) ↦
-          inr (rest, is, left_so number (held (history_of bytes disk.calls)) disk.calls later.calls c rest image front left)
+          inr (rest, is, left, left_so number (held (history_of bytes disk.calls)) disk.calls later.calls c rest image front left)
     ]
 
 -- a growth and its sync
