@@ -142,7 +142,7 @@ module _ (number : ℕ) (disk later : Device) (out after : Output) (status : ℕ
 
   module _ (definitions : Definitions) (grown : Device) (first : grown.first ≡ Some bytes) (drained : Store (List Stored)) where
     -- no source has changed
-    unchanged : (seen made : Device) (asked left : Store (List Stored)) (planned : Planned) (calls : List Call) (refusal : Refusal)
+    pub unchanged : (seen made : Device) (asked left : Store (List Stored)) (planned : Planned) (calls : List Call) (refusal : Refusal)
         → PlansImage (make_request (seed_of number)) definitions.list grown seen (made_store (source_files number)) asked (Ok planned)
         → CarriesOut definitions planned seen made asked left calls (Err refusal) → refusal.status ≡ exit.changed → ⊥
     unchanged seen made asked left planned calls refusal plans carries =
@@ -209,7 +209,7 @@ module _ (number : ℕ) (disk later : Device) (out after : Output) (status : ℕ
 
   module _ (high : number ≤ 100) where
     -- the definitions are there
-    unread : (refusal : Refusal) → Settles folder_refusal (definitions_in X86_64 (tree_for number) folders_of) (Err refusal)
+    pub unread : (refusal : Refusal) → Settles folder_refusal (definitions_in X86_64 (tree_for number) folders_of) (Err refusal)
         → IsNone refusal.status
     unread refusal (inl same) =
         let is : ◌≡◌ {A = Result Definitions Refusal} (Err refusal) (Ok (has_definitions number high).definitions) =

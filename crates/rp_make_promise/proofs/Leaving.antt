@@ -4,16 +4,18 @@ use Rattle.std.specs.Prelude.{IfSome, nat_lt}
 use Rattle.rp_apply_command.specs.Ends.{AtEachMoment, AtTheEnd, Given}
 use Rattle.rp_apply_command.proofs.Goals.{only_read}
 use Rattle.rp_apply_command.proofs.Moments.{carries_all}
-use Rattle.rp_apply_command.proofs.Runs.{same_shown}
+use Rattle.rp_apply_command.proofs.Runs.{all_behind, ends_with_sync, same_shown}
 use Rattle.rp_defs.specs.declared.definition.Definition.{Definition}
 use Rattle.rp_defs.specs.declared.definition.Definitions.{Definitions}
-use Rattle.rp_disk.specs.History.{MayLeave, held}
+use Rattle.rp_disk.specs.History.{IsSettled, MayLeave, held, pending_calls}
 use Rattle.rp_disk.specs.Made.{Made, dones, history_of}
 use Rattle.rp_disk.specs.Runs.{MadeFirst}
-use Rattle.rp_disk.specs.Stops.{IsFrontOf, Leaves}
+use Rattle.rp_disk.specs.Stops.{Agrees, IsFrontOf, Leaves}
 use Rattle.rp_disk.specs.declared.call.Call.{Call}
 use Rattle.rp_disk.specs.declared.call.Call.TheVariants.{SetLen, Sync}
-use Rattle.rp_disk.proofs.Runs.{any_moment_behind_sync, dones-append, more}
+use Rattle.rp_disk.proofs.Agreeing.{agrees-same}
+use Rattle.rp_idle.specs.Idle.{IsIdle}
+use Rattle.rp_disk.proofs.Runs.{ends_settled, any_moment_behind_sync, dones-append, more}
 use Rattle.rp_gpt.specs.declared.table_fault.Empty.TheVariants.{Require}
 use Rattle.rp_headline.specs.Left.{IsDoneWith}
 use Rattle.rp_headline.proofs.Public.{are_calls_of, rows_filled}
@@ -227,6 +229,25 @@ module _ (number : ℕ) (disk later : Device) (out after : Output) (status : ℕ
       subst (λ (o : Option (List ℕ)). IfSome o (λ bytes. AtTheEnd bytes w.made (Done (held (history_of bytes mid.calls))))) tells all.ends_exactly in
       subst (λ (l : List Made). (image : List ℕ) → MayLeave (history_of bytes l) image → Done (grown_image old) image) (sym w.same)
       (subst (λ (grown : List ℕ). AtTheEnd bytes w.made (Done grown)) shown on_disk)
+
+  -- nothing is pending, and nothing is left to do
+  settled : IsSettled (history_of bytes w.made.calls)
+  settled =
+      let split = ends_with_sync _ in
+      let same : Sync ∷ w.calls ≡ split.0 ++ Sync ∷ [] = ap (λ (l : List Call). Sync ∷ l) w.carries.are.are ∙ split.1 in
+      (ends_settled (Some bytes) mid.calls w.made.calls split.0
+      (all_behind mid.calls w.seen.calls w.made.calls w.calls (only.1 ∙ synced) w.carries.ran.ok
+      ∙ ap (λ (l : List Call). mid.calls ++ dones l) same)).0
+
+  shown_left : MayLeave (history_of bytes w.made.calls) (held (history_of bytes w.made.calls))
+  shown_left =
+      let h = history_of bytes w.made.calls in
+      subst (λ (image : List ℕ). Agrees image (pending_calls h) (held h)) (sym settled.bytes) (agrees-same (held h) (pending_calls h))
+
+  pub idle_end : w.planned.plan.dropped ≡ [] → IsIdle 512 (held (history_of bytes later.calls)) w.definitions.list (seed_of number)
+  idle_end none =
+      (ends (held (history_of bytes later.calls))
+      (subst (λ (l : List Made). MayLeave (history_of bytes l) (held (history_of bytes l))) (sym w.same) shown_left)).goal.again none
 
   pub leaves_goal : LeavesGoal number disk later bytes
   leaves_goal = record {

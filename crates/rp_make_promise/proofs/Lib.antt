@@ -1,5 +1,7 @@
+pub mod Answered
 pub mod Blank
 pub mod Complete
+pub mod Idled
 pub mod Leaving
 pub mod Planned
 pub mod Reached

@@ -41,7 +41,7 @@ use Rattle.rp_verity.specs.Filled.{cut, filled}
 use Rattle.rp_verity.specs.Tree.{root_hash}
 use Rattle.rp_make_promise.specs.Told.{root_of_number}
 use Rattle.rp_make_promise.proofs.Blank.{seen_blank}
-use Rattle.rp_make_promise.proofs.Rows.{all_new, made, notes_are, rows_are}
+use Rattle.rp_make_promise.proofs.Rows.{all_new, made, none_dropped, notes_are, rows_are}
 
 -- so many bytes are made
 behind_length : (count state : ℕ) → length (bytes_behind count state) ≡ count
@@ -158,3 +158,7 @@ module _ (number : ℕ) (list : List Definition) (image : List ℕ) (planned : P
       ∙ root_from seed list (known planned.seen) (kept_files (matched_of planned.seen.shown list) m.1.threshold list) 0 0 list
       ∙ ap (option_map (root_planned (known planned.seen))) pair.first
       ∙ ap (λ (root : List ℕ). Some root) (root_known ∙ root_so)
+
+  -- none is dropped
+  pub none_dropped_planned : planned.plan.dropped ≡ []
+  none_dropped_planned = none_dropped planned.seen (target_of 0 planned.seen) list (known planned.seen) seed planned.plan none each parts.1

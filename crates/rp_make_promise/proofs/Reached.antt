@@ -92,7 +92,7 @@ module _ (number : ℕ) (disk later : Device) (out after : Output) (status : ℕ
     module _ (len : ℕ) (room : room_in (held (history_of bytes disk.calls)) ≡ Ok len) (short : len ≤ length_made) (grown : Device)
         (first : grown.first ≡ Some bytes) (behind : grown.calls ≡ disk.calls ++ dones (Sync ∷ growth_calls len))
         (drained : Store (List Stored)) where
-      image : held (history_of bytes grown.calls) ≡ grown_image old
+      pub image : held (history_of bytes grown.calls) ≡ grown_image old
       image = held_grown bytes disk.calls grown.calls len behind (room_length old len room) short
 
       only : (seen : Device) (asked : Store (List Stored)) (answer : Result Planned Refusal)
@@ -118,7 +118,7 @@ module _ (number : ℕ) (disk later : Device) (out after : Output) (status : ℕ
             (subst (λ (o : Option (List Stored)). IfSome o P)
             (told_same (make_request (seed_of number)) definitions.list grown seen (made_store files) asked planned plans) on_disk).0
 
-        told : planned_of (make_request (seed_of number)) definitions.list (grown_image old) files ≡ Ok planned
+        pub told : planned_of (make_request (seed_of number)) definitions.list (grown_image old) files ≡ Ok planned
         told =
             let on_disk : planned_of (make_request (seed_of number)) definitions.list (held (history_of bytes grown.calls)) files ≡ Ok planned =
             subst (λ (o : Option (List ℕ)). IfSome (history_told o grown.calls)

@@ -2,11 +2,12 @@
 
 ghost use Rattle.std.specs.Prelude.{ℕ, ◌≡◌, ◌≤◌, List, Some};
 ghost use Rattle.rp_apply_command.specs.Ends.{AtEachMoment};
+ghost use Rattle.rp_base.specs.Faults.{Rose};
 ghost use Rattle.rp_disk.specs.History.{held};
 ghost use Rattle.rp_disk.specs.Made.{history_of};
 ghost use Rattle.rp_disk.specs.Runs.{MadeFirst};
 ghost use Rattle.rp_make_command.specs.Makes.{Makes};
-ghost use Rattle.rp_make_promise.specs.Complete.{HasReason};
+ghost use Rattle.rp_make_promise.specs.Complete.{AnswersImage, HasReason};
 ghost use Rattle.rp_make_promise.specs.Leaves.{IsLeftInMaking, LeavesGoal, make_calls};
 ghost use Rattle.rp_make_promise.specs.Told.{TellsSummary};
 ghost use Rattle.rp_outcome.specs.Device.{Device};
@@ -38,9 +39,15 @@ pub fn make_leaves_the_goal()
 {}
 
 /// Where the disk tells its bytes, each status but 0, 1, 4, 5 and 10 comes with a call of disk or sink that failed: 7 and 9. No other
-/// comes: the definitions of a number are there, and so is its source, which doesn't change.
+/// comes: the definitions of a number are there, and so is its source, which doesn't change. So `make` is complete: where no call
+/// fails, an image that may not be grown is refused with the status of its refusal, and one for which nothing can be planned with that
+/// of the demand; any other is made and compared, but for want of memory.
 pub fn make_is_complete()
-    ensures { (number : ℕ) (disk later : Device) (out after : Output) (status : ℕ) → number ≤ 100
+    ensures reasons { (number : ℕ) (disk later : Device) (out after : Output) (status : ℕ) → number ≤ 100
         → Makes number disk later out after status → (bytes : List ℕ) → disk.first ≡ Some bytes
         → HasReason disk later out after status }
+    ensures answers { (number : ℕ) (disk later : Device) (out after : Output) (status : ℕ) → number ≤ 100
+        → Makes number disk later out after status → (bytes : List ℕ) → disk.first ≡ Some bytes
+        → ¬ Rose disk.faults later.faults → ¬ Rose out.faults after.faults
+        → AnswersImage number status (held (history_of bytes disk.calls)) }
 {}
