@@ -1,21 +1,21 @@
 -- The answer of a run of `make` in which no call failed.
-use Rattle.std.proofs.Common.{ℕ, ◌≡◌, ◌⊎◌, ◌≤◌, ◌∙◌, ◌++◌, List, [], ◌∷◌, Option, Some, None, Result, Ok, Err, All, refl, sym, ap, subst, inl, inr}
+use Rattle.std.proofs.Common.{ℕ, ◌≡◌, ◌⊎◌, ◌≤◌, ◌∙◌, ◌++◌, List, [], ◌∷◌, Option, Some, None, Result, Ok, Err, All, refl, sym, ap, subst, inl, inr, arith}
 use Rattle.std.specs.Prelude.{IfOk, IfSome}
 use Rattle.rp_apply_command.specs.Applies.{CarriesOut, Opens, Outcome, PlanFits}
-use Rattle.rp_apply_command.proofs.Goals.{settled_ok, told_same}
+use Rattle.rp_apply_command.proofs.Goals.{is_told, settled_ok, told_same}
 use Rattle.rp_apply_command.proofs.Runs.{same_shown}
 use Rattle.rp_base.specs.Faults.{Rose}
 use Rattle.rp_base.specs.declared.faults.Failed.{Failed}
 use Rattle.rp_check_command.specs.Checks.{Finds, check_request}
 use Rattle.rp_defs.specs.WellFormed.{IsWellFormed}
 use Rattle.rp_defs.specs.declared.definition.Definitions.{Definitions}
+use Rattle.rp_difference.specs.Difference.{difference}
 use Rattle.rp_difference.specs.declared.difference.Difference.{Difference}
 use Rattle.rp_disk.specs.History.{held}
 use Rattle.rp_disk.specs.Made.{Made, dones, history_of, history_told}
 use Rattle.rp_disk.specs.declared.call.Call.{Call}
 use Rattle.rp_disk.specs.declared.call.Call.TheVariants.{Sync}
 use Rattle.rp_disk.proofs.Runs.{more}
-use Rattle.rp_idle.specs.Idle.{IsIdle}
 use Rattle.rp_io.specs.Files.{Tree}
 use Rattle.rp_io.specs.declared.stored.Stored.{Stored}
 use Rattle.rp_make_command.specs.Makes.{Makes, MakesCheckedBehind, MakesComparedBehind, MakesGrownBehind, MakesLookedBehind, MakesOpenedBehind, MakesPlannedBehind, MakesReadBehind, TellsFound, made_store, make_request}
@@ -30,28 +30,42 @@ use Rattle.rp_outcome.specs.Device.{Device}
 use Rattle.rp_outcome.specs.Output.{Output, Refuses}
 use Rattle.rp_outcome.specs.Refusals.{Refusal, disk_refusal, folder_refusal, memory_refusal, source_refusal}
 use Rattle.rp_outcome.specs.Store.{Store}
-use Rattle.rp_planned.specs.Planning.{PlansImage, planned_of, with_seen}
+use Rattle.rp_planned.specs.Planning.{PlansImage, planned_of, target_of}
 use Rattle.rp_planned.specs.declared.planned.Planned.{Planned}
 use Rattle.rp_reading.specs.Reading.{ReadsDefinitions, definitions_in}
 use Rattle.rp_reading.specs.Stages.{Settles, and_then}
 use Rattle.rp_types.specs.declared.arch.Arch.TheVariants.{X86_64}
-use Rattle.rp_make_promise.specs.Complete.{AnswersImage, AnswersPlanned, AnswersRoom}
+use Rattle.rp_make_promise.specs.Complete.{AnswersImage, AnswersPlanned, AnswersRoom, HasReason}
 use Rattle.rp_make_promise.specs.Leaves.{grown_image, planned_for}
-use Rattle.rp_make_promise.proofs.Complete.{unchanged}
-use Rattle.rp_make_promise.proofs.Idled.{idle_planned, untold}
-use Rattle.rp_make_promise.proofs.Leaving.{idle_end}
-use Rattle.rp_make_promise.proofs.Planned.{none_dropped_planned}
+use Rattle.rp_make_promise.proofs.Complete.{IsNone, by_room, has_reason, none_planned, unchanged}
+use Rattle.rp_make_promise.proofs.Leaving.{final_end}
+use Rattle.rp_make_promise.proofs.Planned.{is_planned}
 use Rattle.rp_make_promise.proofs.Reached.{image, planned_so, room_told, told}
+use Rattle.rp_make_promise.proofs.Unchanged.{planned_again, untold}
 use Rattle.rp_make_promise.proofs.Went.{Went}
+use Rattle.rp_unchanged.specs.Defined.{AreSteady}
+use Rattle.rp_unchanged.specs.Unchanged.{IsUnchanged}
+use Rattle.rp_unchanged.proofs.Nothing.{made_unchanged}
 
 same_definitions : (a b : Definitions) → ◌≡◌ {A = Result Definitions Refusal} (Ok a) (Ok b) → a ≡ b
 same_definitions a b e = cc
+
+same_planned : (a b : Planned) → ◌≡◌ {A = Result Planned Refusal} (Ok a) (Ok b) → a ≡ b
+same_planned a b e = cc
+
+-- a refusal is no difference
+not_one : (n : ℕ) → IsNone n → n ≡ 1 → ⊥
+not_one n (inl a) one = omega (arith, a, one)
+not_one n (inr (inl a)) one = omega (arith, a, one)
+not_one n (inr (inr (inl a))) one = omega (arith, a, one)
+not_one n (inr (inr (inr (inl a)))) one = omega (arith, a, one)
+not_one n (inr (inr (inr (inr a)))) one = omega (arith, a, one)
 
 same_err : {T : Type 0} (a b : Refusal) → ◌≡◌ {A = Result T Refusal} (Err a) (Err b) → a ≡ b
 same_err a b e = cc
 
 as_planned : (status : ℕ) (r : Result (Definitions × Planned) Refusal) → status ≡ 10 → AnswersPlanned status r
-as_planned status (Ok both) want = inr (inr want)
+as_planned status (Ok both) want = inr want
 as_planned status (Err refusal) want = inr want
 
 as_room : (number status : ℕ) (old : List ℕ) (r : Result ℕ Refusal) → status ≡ 10 → AnswersRoom number status old r
@@ -69,15 +83,19 @@ module _ (number : ℕ) (disk later : Device) (out after : Output) (status : ℕ
   abbrev files : List Stored
   files = source_files number
 
-  -- the answer, or an object failed
+  -- the answer, which is no difference, or an object failed
   abbrev End : Type 0
-  End = AnswersImage number status (held (history_of bytes disk.calls)) ⊎ (status ≡ 7) ⊎ (status ≡ 8) ⊎ (status ≡ 9)
+  End = (AnswersImage number status (held (history_of bytes disk.calls)) × (status ≡ 1 → ⊥))
+      ⊎ (status ≡ 7) ⊎ (status ≡ 8) ⊎ (status ≡ 9)
+
+  no_difference : (refusal : Refusal) → Refuses out after refusal status → IsNone refusal.status → status ≡ 1 → ⊥
+  no_difference refusal refuses none one = not_one refusal.status none (sym refuses.answers ∙ one)
 
   by_status : (refusal other : Refusal) → Refuses out after refusal status → refusal ≡ other → status ≡ other.status
   by_status refusal other refuses e = refuses.answers ∙ ap (λ (r : Refusal). r.status) e
 
   wanting : status ≡ 10 → End
-  wanting want = inl (as_room number status old (room_in old) want)
+  wanting want = inl (as_room number status old (room_in old) want, λ one. omega (arith, want, one))
 
   by_memory : (refusal : Refusal) → Refuses out after refusal status → refusal ≡ memory_refusal → End
   by_memory refusal refuses e = wanting (by_status refusal memory_refusal refuses e)
@@ -106,6 +124,9 @@ module _ (number : ℕ) (disk later : Device) (out after : Output) (status : ℕ
     pair : HasPair number definitions.list
     pair = subst (λ (d : Definitions). HasPair number d.list) same has.pair
 
+    steady : AreSteady X86_64 definitions.list
+    steady = subst (λ (d : Definitions). AreSteady X86_64 d.list) same has.steady
+
     module _ (opened looked grown : Device) (len : ℕ) (drained : Store (List Stored)) (opens : Opens disk opened (Ok tt))
         (looks : Looks room_in opened looked (Ok len)) (grows : Grows {T = Unit {0}} {E = Failed} len looked grown (Ok tt)) where
       room : room_in old ≡ Ok len
@@ -117,13 +138,13 @@ module _ (number : ℕ) (disk later : Device) (out after : Output) (status : ℕ
       behind : grown.calls ≡ disk.calls ++ dones (Sync ∷ growth_calls len)
       behind = more disk.calls looked.calls grown.calls (Sync ∷ []) (growth_calls len) (looks.only_read.calls ∙ opens.ran.ok) grows.ran.ok
 
-      by_plan_of : AnswersPlanned status (planned_for number (grown_image old)) → End
-      by_plan_of answers = inl (subst (AnswersRoom number status old) (sym room) answers)
+      by_plan_of : (status ≡ 1 → ⊥) → AnswersPlanned status (planned_for number (grown_image old)) → End
+      by_plan_of none answers = inl (subst (AnswersRoom number status old) (sym room) answers, none)
 
       -- it is refused as is told
-      refused_so : (refusal : Refusal) → Refuses out after refusal status
+      refused_so : (refusal : Refusal) → Refuses out after refusal status → IsNone refusal.status
           → planned_of (make_request (seed_of number)) definitions.list (held (history_of bytes grown.calls)) files ≡ Err refusal → End
-      refused_so refusal refuses is =
+      refused_so refusal refuses fault is =
           let there : planned_of (make_request (seed_of number)) definitions.list (grown_image old) files ≡ Err refusal =
           subst (λ (i : List ℕ). planned_of (make_request (seed_of number)) definitions.list i (source_files number) ≡ Err refusal)
           (image number disk later out after status bytes tells definitions are formed len room looks.short grown first behind drained) is in
@@ -132,7 +153,7 @@ module _ (number : ℕ) (disk later : Device) (out after : Output) (status : ℕ
           and_then (planned_of (make_request (seed_of number)) definitions.list (grown_image old) (source_files number))
           (λ planned. Ok (definitions, planned)))) are
           ∙ ap (λ (p : Result Planned Refusal). and_then p (λ planned. Ok (definitions, planned))) there in
-          by_plan_of (subst (AnswersPlanned status) (sym none) (inl refuses.answers))
+          by_plan_of (no_difference refusal refuses fault) (subst (AnswersPlanned status) (sym none) (inl refuses.answers))
 
       module _ (seen : Device) (asked : Store (List Stored)) (planned : Planned)
           (plans : PlansImage (make_request (seed_of number)) definitions.list grown seen (made_store (source_files number)) asked (Ok planned))
@@ -142,8 +163,8 @@ module _ (number : ℕ) (disk later : Device) (out after : Output) (status : ℕ
           goal = planned_so number disk later out after status bytes tells definitions are formed len room looks.short grown first behind
               drained seen made asked left planned calls (Ok tt) plans fits carries
 
-          by_answer : (status ≡ 0) ⊎ (status ≡ 1) ⊎ (status ≡ 10) → End
-          by_answer is = by_plan_of (subst (AnswersPlanned status) (sym goal) is)
+          done : status ≡ 0 → End
+          done is = by_plan_of (λ one. omega (arith, is, one)) (subst (AnswersPlanned status) (sym goal) (inl is))
 
           -- the run so far
           so_far : Went number disk made silent silent
@@ -171,12 +192,21 @@ module _ (number : ℕ) (disk later : Device) (out after : Output) (status : ℕ
             printed = record { taken = tt; kept = refl };
           }
 
-          idle : IsIdle 512 (held (history_of bytes made.calls)) definitions.list (seed_of number)
+          -- the image that was made differs in nothing from what is planned for it again
+          same_image : IsUnchanged 512 (held (history_of bytes made.calls)) X86_64 planned.seen planned.plan definitions.list (seed_of number)
           unfolding so_far
-          idle = idle_end number disk made silent silent 0 bytes tells so_far
-              (none_dropped_planned number definitions.list (grown_image old) planned formed each pair high
+          same_image =
+              (made_unchanged 512 (grown_image old) planned.seen (target_of 0 planned.seen) definitions.list (source_files number)
+              (seed_of number) planned.plan (held (history_of bytes made.calls)) X86_64
+              (is_planned number definitions.list (grown_image old) planned formed each pair high
               (told number disk later out after status bytes tells definitions are formed len room looks.short grown first behind drained
-              seen made asked left planned calls (Ok tt) plans fits carries))
+              seen made asked left planned calls (Ok tt) plans fits carries) fits.table)
+              fits.notes steady (final_end number disk made silent silent 0 bytes tells so_far)).1
+
+          again : (again : Planned)
+              × (planned_of (check_request (seed_of number) X86_64 512) definitions.list (held (history_of bytes made.calls)) files ≡ Ok again)
+              × (difference (held (history_of bytes made.calls)) X86_64 again.seen again.plan ≡ None)
+          again = planned_again (seed_of number) definitions.list (held (history_of bytes made.calls)) files planned.seen planned.plan same_image
 
           made_first : made.first ≡ Some bytes
           made_first = carries.first ∙ plans.1.only_read.first ∙ first
@@ -189,21 +219,55 @@ module _ (number : ℕ) (disk later : Device) (out after : Output) (status : ℕ
           none_refused : (refusal : Refusal)
               → planned_of (check_request (seed_of number) X86_64 512) definitions.list (held (history_of bytes made.calls)) files ≡ Err refusal → ⊥
           none_refused refusal is =
-              let clash : ◌≡◌ {A = Result Planned Refusal} (Ok (with_seen idle.seen idle.plan)) (Err refusal) =
-              sym (idle_planned (seed_of number) definitions.list (held (history_of bytes made.calls)) files idle) ∙ is in absurd (cc)
+              let clash : ◌≡◌ {A = Result Planned Refusal} (Ok again.0) (Err refusal) = sym again.1 ∙ is in absurd (cc)
 
-          found : (answer : Result (Option Difference) Refusal) (planned : Planned) (mid : Device) → Finds X86_64 planned mid later answer
-              → (front : List ℕ) → TellsFound front out after status answer → End
-          found (Ok None) planned mid finds front (inl (e, printed)) = by_answer (inl e)
-          found (Ok None) planned mid finds front (inr (e, part)) = inr (inr (inr e))
-          found (Ok (Some d)) planned mid finds front (inl (e, printed)) = by_answer (inr (inl e))
-          found (Ok (Some d)) planned mid finds front (inr (e, part)) = inr (inr (inr e))
-          found (Err refusal) planned mid finds front refuses = by_either refusal refuses finds.refusal
+          module _ (mid : Device) (second : Planned)
+              (plans_again : PlansImage (check_request (seed_of number) X86_64 512) definitions.list made mid left drained (Ok second)) where
+            second_told : planned_of (check_request (seed_of number) X86_64 512) definitions.list (held (history_of bytes made.calls)) files
+                ≡ Ok second
+            second_told =
+                let on_disk : IfSome left.told (λ files. planned_of (check_request (seed_of number) X86_64 512) definitions.list
+                (held (history_of bytes made.calls)) files ≡ Ok second) =
+                subst (λ (o : Option (List ℕ)). IfSome (history_told o made.calls) (λ h. IfSome left.told (λ files.
+                planned_of (check_request (seed_of number) X86_64 512) definitions.list (held h) files ≡ Ok second))) made_first
+                (is_told (check_request (seed_of number) X86_64 512) definitions.list made mid left drained second plans_again) in
+                subst (λ (o : Option (List Stored)). IfSome o (λ files. planned_of (check_request (seed_of number) X86_64 512)
+                definitions.list (held (history_of bytes made.calls)) files ≡ Ok second)) left_told on_disk
+
+            none_differs : difference (held (history_of bytes made.calls)) X86_64 second.seen second.plan ≡ None
+            none_differs =
+                subst (λ (p : Planned). difference (held (history_of bytes made.calls)) X86_64 p.seen p.plan ≡ None)
+                (same_planned again.0 second (sym again.1 ∙ second_told)) again.2
+
+            settles : (answer : Result (Option Difference) Refusal) → Finds X86_64 second mid later answer
+                → Settles disk_refusal (Ok None) answer
+            settles answer finds =
+                let only = plans_again.1.only_read in
+                let on_disk : IfSome (history_told made.first made.calls) (λ h. Settles disk_refusal
+                (Ok (difference (held h) X86_64 second.seen second.plan)) answer) =
+                subst (λ (o : Option (List ℕ)). IfSome (history_told o made.calls) (λ h. Settles disk_refusal
+                (Ok (difference (held h) X86_64 second.seen second.plan)) answer)) only.first
+                (subst (λ (l : List Made). IfSome (history_told mid.first l) (λ h. Settles disk_refusal
+                (Ok (difference (held h) X86_64 second.seen second.plan)) answer)) only.calls finds.settled) in
+                let there : Settles disk_refusal (Ok (difference (held (history_of bytes made.calls)) X86_64 second.seen second.plan)) answer =
+                subst (λ (o : Option (List ℕ)). IfSome (history_told o made.calls) (λ h. Settles disk_refusal
+                (Ok (difference (held h) X86_64 second.seen second.plan)) answer)) made_first on_disk in
+                subst (λ (found : Option Difference). Settles disk_refusal (Ok found) answer) none_differs there
+
+            found : (answer : Result (Option Difference) Refusal) → Finds X86_64 second mid later answer
+                → (front : List ℕ) → TellsFound front out after status answer → End
+            found (Ok None) finds front (inl (e, printed)) = done e
+            found (Ok None) finds front (inr (e, part)) = inr (inr (inr e))
+            found (Ok (Some d)) finds front tells_it =
+                let clash : ◌≡◌ {A = Result (Option Difference) Refusal} (Ok None) (Ok (Some d)) =
+                settled_ok disk_refusal (Ok None) (Some d) (settles (Ok (Some d)) finds) in absurd (cc)
+            found (Err refusal) finds front refuses = by_either refusal refuses finds.refusal
 
           checked : (mid : Device) (answer : Result Planned Refusal)
               → PlansImage (check_request (seed_of number) X86_64 512) definitions.list made mid left drained answer
               → MakesComparedBehind (front_text number planned) mid later out after status answer → End
-          checked mid (Ok again) plans_again (answer, finds, tells) = found answer again mid finds (front_text number planned) tells
+          checked mid (Ok second) plans_again (answer, finds, tells_it) =
+              found mid second plans_again answer finds (front_text number planned) tells_it
           checked mid (Err refusal) plans_again (at, refuses) =
               elim (untold (check_request (seed_of number) X86_64 512) definitions.list made mid left drained refusal bytes files made_first
               left_told plans_again) [
@@ -231,7 +295,9 @@ module _ (number : ℕ) (disk later : Device) (out after : Output) (status : ℕ
           → MakesPlannedBehind number (seed_of number) definitions seen later asked drained out after status answer → End
       by_plan seen asked (Err refusal) plans fits (at, none, refuses) =
           elim (untold (make_request (seed_of number)) definitions.list grown seen (made_store files) asked refusal bytes files first refl plans) [
-            | inl is ↦ refused_so refusal refuses is
+            | inl is ↦
+                refused_so refusal refuses
+                (none_planned (make_request (seed_of number)) definitions.list grown seen (made_store files) asked refusal plans) is
             | inr (inl e) ↦ by_disk refusal refuses e
             | inr (inr (inl e)) ↦ by_source refusal refuses e
             | inr (inr (inr e)) ↦ by_memory refusal refuses e
@@ -264,7 +330,10 @@ module _ (number : ℕ) (disk later : Device) (out after : Output) (status : ℕ
           (ap (λ (l : List Made). held (history_of bytes l)) opens.ran.ok ∙ same_shown bytes disk.calls) on_disk
 
       by_settled : Settles disk_refusal (room_in old) (Err refusal) → End
-      by_settled (inl is) = inl (subst (AnswersRoom number status old) is (inl refuses.answers))
+      by_settled (inl is) = inl (
+        subst (AnswersRoom number status old) is (inl refuses.answers),
+        no_difference refusal refuses (by_room number disk later out after status bytes tells refusal looks.refusal),
+      )
       by_settled (inr (inl e)) = by_disk refusal refuses (same_err {T = ℕ} refusal disk_refusal e)
       by_settled (inr (inr e)) = by_memory refusal refuses (same_err {T = ℕ} refusal memory_refusal e)
 
@@ -299,8 +368,20 @@ pub answers_so : (number : ℕ) (disk later : Device) (out after : Output) (stat
 answers_so number disk later out after status high makes bytes tells disk_kept sink_kept =
     let ends = ends_so disk later out after status number makes in
     elim (ended number disk later out after status bytes tells high makes) [
-      | inl answers ↦ answers
+      | inl answers ↦ answers.0
       | inr (inl e) ↦ absurd (disk_kept (ends.causes.disk_failed e))
       | inr (inr (inl e)) ↦ absurd (never_files number disk later out after status high makes e)
       | inr (inr (inr e)) ↦ absurd (sink_kept (ends.causes.sink_failed e))
     ]
+
+-- why it ends so
+pub reason_so : (number : ℕ) (disk later : Device) (out after : Output) (status : ℕ) → number ≤ 100 → Makes number disk later out after status
+    → (bytes : List ℕ) → disk.first ≡ Some bytes → HasReason disk later out after status
+reason_so number disk later out after status high makes bytes tells =
+    has_reason number disk later out after status bytes tells high makes
+    (elim (ended number disk later out after status bytes tells high makes) [
+      | inl answers ↦ answers.1
+      | inr (inl e) ↦ λ one. omega (arith, e, one)
+      | inr (inr (inl e)) ↦ λ one. omega (arith, e, one)
+      | inr (inr (inr e)) ↦ λ one. omega (arith, e, one)
+    ])

@@ -187,7 +187,7 @@ module _ (number : ℕ) (disk later : Device) (out after : Output) (status : ℕ
   by_growth definitions looked grown len drained (Ok done) first grows (seen, asked, answer, plans, fits, behind) =
       by_plan definitions grown (grows.first ∙ first) drained seen asked answer plans behind
 
-  by_room : (refusal : Refusal) → IsRoomRefusal refusal → IsNone refusal.status
+  pub by_room : (refusal : Refusal) → IsRoomRefusal refusal → IsNone refusal.status
   by_room refusal (inl four) = inl four
   by_room refusal (inr two) = either refusal two
 
@@ -229,20 +229,18 @@ module _ (number : ℕ) (disk later : Device) (out after : Output) (status : ℕ
     one_of (inl (at, refuses)) = refused_so memory_refusal (none_memory memory_refusal refl) refuses
     one_of (inr (read, answer, reads, astray, behind)) = by_reading read answer reads behind
 
-    reason : MakeEnds disk later out after status → (status ≡ 8 → ⊥) → One → HasReason disk later out after status
-    reason ends never (inl e) = inl (inl e)
-    reason ends never (inr (inl e)) = inl (inr (inl e))
-    reason ends never (inr (inr (inl e))) = inr (inr (e, ends.causes.sink_failed e))
-    reason ends never (inr (inr (inr (inl e)))) = inl (inr (inr (inl e)))
-    reason ends never (inr (inr (inr (inr (inl e))))) = inl (inr (inr (inr (inl e))))
-    reason ends never (inr (inr (inr (inr (inr (inl e)))))) = inr (inl (e, ends.causes.disk_failed e))
-    reason ends never (inr (inr (inr (inr (inr (inr (inl e))))))) = absurd (never e)
-    reason ends never (inr (inr (inr (inr (inr (inr (inr e))))))) = inl (inr (inr (inr (inr e))))
+    -- why it ends so, where it tells no difference
+    reason : MakeEnds disk later out after status → (status ≡ 8 → ⊥) → (status ≡ 1 → ⊥) → One → HasReason disk later out after status
+    reason ends never same (inl e) = inl (inl e)
+    reason ends never same (inr (inl e)) = absurd (same e)
+    reason ends never same (inr (inr (inl e))) = inr (inr (e, ends.causes.sink_failed e))
+    reason ends never same (inr (inr (inr (inl e)))) = inl (inr (inl e))
+    reason ends never same (inr (inr (inr (inr (inl e))))) = inl (inr (inr (inl e)))
+    reason ends never same (inr (inr (inr (inr (inr (inl e)))))) = inr (inl (e, ends.causes.disk_failed e))
+    reason ends never same (inr (inr (inr (inr (inr (inr (inl e))))))) = absurd (never e)
+    reason ends never same (inr (inr (inr (inr (inr (inr (inr e))))))) = inl (inr (inr (inr e)))
 
--- why it ends so
-pub has_reason : (number : ℕ) (disk later : Device) (out after : Output) (status : ℕ) → number ≤ 100 → Makes number disk later out after status
-    → (bytes : List ℕ) → disk.first ≡ Some bytes → HasReason disk later out after status
-has_reason number disk later out after status high makes bytes tells =
-    reason number disk later out after status bytes tells high (ends_so disk later out after status number makes)
-    (never_files number disk later out after status high makes)
-    (one_of number disk later out after status bytes tells high makes)
+    pub has_reason : Makes number disk later out after status → (status ≡ 1 → ⊥) → HasReason disk later out after status
+    has_reason makes same =
+        reason (ends_so disk later out after status number makes) (never_files number disk later out after status high makes) same
+        (one_of makes)

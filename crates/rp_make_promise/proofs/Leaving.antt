@@ -14,7 +14,6 @@ use Rattle.rp_disk.specs.Stops.{Agrees, IsFrontOf, Leaves}
 use Rattle.rp_disk.specs.declared.call.Call.{Call}
 use Rattle.rp_disk.specs.declared.call.Call.TheVariants.{SetLen, Sync}
 use Rattle.rp_disk.proofs.Agreeing.{agrees-same}
-use Rattle.rp_idle.specs.Idle.{IsIdle}
 use Rattle.rp_disk.proofs.Runs.{ends_settled, any_moment_behind_sync, dones-append, more}
 use Rattle.rp_gpt.specs.declared.table_fault.Empty.TheVariants.{Require}
 use Rattle.rp_headline.specs.Left.{IsDoneWith}
@@ -31,6 +30,7 @@ use Rattle.rp_planned.specs.Planning.{target_of}
 use Rattle.rp_planned.specs.declared.planned.Planned.{Planned}
 use Rattle.rp_steps.specs.Calls.{calls as calls_for, contents_calls}
 use Rattle.rp_steps.specs.Contents.{Sources}
+use Rattle.rp_stops.specs.Final.{IsFinal}
 use Rattle.rp_stops.specs.Honest.{IsTornHonest}
 use Rattle.rp_stops.specs.Safe.{IsSafe}
 use Rattle.rp_stops.proofs.Carried.{alone}
@@ -230,7 +230,7 @@ module _ (number : ℕ) (disk later : Device) (out after : Output) (status : ℕ
       subst (λ (l : List Made). (image : List ℕ) → MayLeave (history_of bytes l) image → Done (grown_image old) image) (sym w.same)
       (subst (λ (grown : List ℕ). AtTheEnd bytes w.made (Done grown)) shown on_disk)
 
-  -- nothing is pending, and nothing is left to do
+  -- nothing is pending, and the image is the final one
   settled : IsSettled (history_of bytes w.made.calls)
   settled =
       let split = ends_with_sync _ in
@@ -244,10 +244,11 @@ module _ (number : ℕ) (disk later : Device) (out after : Output) (status : ℕ
       let h = history_of bytes w.made.calls in
       subst (λ (image : List ℕ). Agrees image (pending_calls h) (held h)) (sym settled.bytes) (agrees-same (held h) (pending_calls h))
 
-  pub idle_end : w.planned.plan.dropped ≡ [] → IsIdle 512 (held (history_of bytes later.calls)) w.definitions.list (seed_of number)
-  idle_end none =
+  pub final_end : IsFinal (grown_image old) w.planned.seen w.planned.plan (contents_for number (grown_image old) w.definitions w.planned)
+      (held (history_of bytes later.calls))
+  final_end =
       (ends (held (history_of bytes later.calls))
-      (subst (λ (l : List Made). MayLeave (history_of bytes l) (held (history_of bytes l))) (sym w.same) shown_left)).goal.again none
+      (subst (λ (l : List Made). MayLeave (history_of bytes l) (held (history_of bytes l))) (sym w.same) shown_left)).final
 
   pub leaves_goal : LeavesGoal number disk later bytes
   leaves_goal = record {

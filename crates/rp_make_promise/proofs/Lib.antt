@@ -1,11 +1,11 @@
 pub mod Answered
 pub mod Blank
 pub mod Complete
-pub mod Idled
 pub mod Leaving
 pub mod Planned
 pub mod Reached
 pub mod Room
 pub mod Rows
 pub mod Summed
+pub mod Unchanged
 pub mod Went

@@ -4,7 +4,7 @@ use Rattle.std.specs.Prelude.{option_and_then, option_map, unwrap_or, is_some, m
 use Rattle.std.specs.List.{enumerate_from}
 use Rattle.rp_apply_command.proofs.Goals.{accepted_of, goal_by}
 use Rattle.rp_base.specs.Plan.{IsTarget, IsWellFormed as IsPlan}
-use Rattle.rp_base.specs.Table.{IsWhole}
+use Rattle.rp_base.specs.Table.{IsWhole, TableFits}
 use Rattle.rp_base.specs.declared.guid.Guid.{Guid}
 use Rattle.rp_base.specs.declared.seen.Seen.{Seen}
 use Rattle.rp_defs.specs.WellFormed.{IsWellFormed}
@@ -13,6 +13,7 @@ use Rattle.rp_defs.specs.declared.definition.Verity.{Verity}
 use Rattle.rp_defs.specs.declared.definition.Verity.TheVariants.{Off, Data, Hash}
 use Rattle.rp_gpt.specs.Shown.{accepted, blank}
 use Rattle.rp_gpt.specs.declared.table_fault.Empty.TheVariants.{Require}
+use Rattle.rp_idle.specs.Idle.{IsPlanned}
 use Rattle.rp_idle.proofs.Public.{plannable}
 use Rattle.rp_io.specs.Files.{content}
 use Rattle.rp_io.specs.declared.stored.Stored.{Stored}
@@ -41,7 +42,8 @@ use Rattle.rp_verity.specs.Filled.{cut, filled}
 use Rattle.rp_verity.specs.Tree.{root_hash}
 use Rattle.rp_make_promise.specs.Told.{root_of_number}
 use Rattle.rp_make_promise.proofs.Blank.{seen_blank}
-use Rattle.rp_make_promise.proofs.Rows.{all_new, made, none_dropped, notes_are, rows_are}
+use Rattle.rp_make_promise.proofs.Unchanged.{own_target}
+use Rattle.rp_make_promise.proofs.Rows.{all_new, made, notes_are, rows_are}
 
 -- so many bytes are made
 behind_length : (count state : ℕ) → length (bytes_behind count state) ≡ count
@@ -159,6 +161,16 @@ module _ (number : ℕ) (list : List Definition) (image : List ℕ) (planned : P
       ∙ ap (option_map (root_planned (known planned.seen))) pair.first
       ∙ ap (λ (root : List ℕ). Some root) (root_known ∙ root_so)
 
-  -- none is dropped
-  pub none_dropped_planned : planned.plan.dropped ≡ []
-  none_dropped_planned = none_dropped planned.seen (target_of 0 planned.seen) list (known planned.seen) seed planned.plan none each parts.1
+  -- the plan is a goal for the image by what its sources tell
+  pub is_planned : TableFits planned.plan.goal → IsPlanned 512 image Require planned.seen (target_of 0 planned.seen) list
+      (facts (seed_of number) (source_files number) planned.seen.shown list) (seed_of number) planned.plan
+  is_planned fits = record {
+    of_sector = inl refl;
+    seen_of = parts.0;
+    aim = subst (λ (s : ℕ). IsTarget s planned.seen.sectors (target_of 0 planned.seen)) can.1 aim;
+    grows = inl (own_target planned.seen);
+    definitions = formed;
+    known = facts_are_on planned.seen list files seed;
+    goal_is = parts.1;
+    fits = fits;
+  }

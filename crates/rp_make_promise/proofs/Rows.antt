@@ -65,20 +65,6 @@ module _ (matched : List (Option ℕ)) (threshold : ℤ) (new : (k : ℕ) → is
       ∙ passes definition.priority threshold (All-head IsMade definition list each).priority low)
       (kept_from (n + 1) list (All-tail IsMade definition list each))
 
-  drop_step : (new priority_passes : Bool) (n : ℕ) (rest : List ℕ) → new ≡ true → priority_passes ≡ true → rest ≡ []
-      → cons_option (cond (new && not priority_passes) (Some n) None) rest ≡ []
-  drop_step true true n rest is passes none = none
-  drop_step true false n rest is passes none = absurd (cc)
-  drop_step false passing n rest is passes none = absurd (cc)
-
-  dropped_from : (n : ℕ) (list : List Definition) → All IsMade list → filter_map (dropped_file matched threshold) (enumerate_from n list) ≡ []
-  dropped_from n [] each = refl
-  dropped_from n (definition ∷ list) each =
-      drop_step (is_new matched n) (int_le definition.priority threshold) n
-      (filter_map (dropped_file matched threshold) (enumerate_from (n + 1) list)) (new n)
-      (passes definition.priority threshold (All-head IsMade definition list each).priority low)
-      (dropped_from (n + 1) list (All-tail IsMade definition list each))
-
 module _ (seen : Seen) (target : ℕ) (list : List Definition) (facts : List Fact) (seed : Guid) (plan : Plan) (none : seen.shown.rows ≡ [])
     (each : All IsMade list) (is : goal seen target list facts seed ≡ Ok plan) where
   abbrev own : List (Option ℕ)
@@ -108,9 +94,3 @@ module _ (seen : Seen) (target : ℕ) (list : List Definition) (facts : List Fac
       ++ map (new_note seed list facts (first_free rows) (kept_files own made.1.threshold list))
       (enumerate_from (first_free rows) (kept_of own made.1.threshold list))) none
       ∙ ap (λ (kept : List (ℕ × Definition)). map (new_note seed list facts 0 (kept_files own made.1.threshold list)) (enumerate_from 0 kept)) all_kept
-
-  -- none is dropped
-  pub none_dropped : plan.dropped ≡ []
-  none_dropped = ap (λ (p : Plan). p.dropped) made.2.same
-      ∙ dropped_from own made.1.threshold (λ k. all_new seen.shown list k none)
-      (kept_settled made.0 (news_of own (asked own list facts) list) (free_slots seen.shown) made.1 made.2.settles).low 0 list each

@@ -13,16 +13,16 @@ use Rattle.rp_planned.specs.declared.planned.Planned.{Planned}
 -- statuses of a run in which no call has to have failed
 abbrev pub IsOwn : ℕ → Type 0
 IsOwn status =
-    (status ≡ exit.done) ⊎ (status ≡ exit.differs) ⊎ (status ≡ exit.image) ⊎ (status ≡ exit.demand) ⊎ (status ≡ exit.memory)
+    (status ≡ exit.done) ⊎ (status ≡ exit.image) ⊎ (status ≡ exit.demand) ⊎ (status ≡ exit.memory)
 
 -- each other comes with a call that failed: 7 with one of the disk, 9 with one of the sink; and there is none but these
 abbrev pub HasReason : Device → Device → Output → Output → ℕ → Type 0
 HasReason disk later out after status =
     IsOwn status ⊎ ((status ≡ exit.disk) × Rose disk.faults later.faults) ⊎ ((status ≡ exit.sink) × Rose out.faults after.faults)
 
--- the answer to what is planned: it is done, or tells a difference; else the status of the refusal. Or there was no memory
+-- the answer to what is planned: it is done; else the status of the refusal. Or there was no memory
 abbrev pub AnswersPlanned : ℕ → Result (Definitions × Planned) Refusal → Type 0
-AnswersPlanned status (Ok told) = (status ≡ exit.done) ⊎ (status ≡ exit.differs) ⊎ (status ≡ exit.memory)
+AnswersPlanned status (Ok told) = (status ≡ exit.done) ⊎ (status ≡ exit.memory)
 AnswersPlanned status (Err refusal) = (status ≡ refusal.status) ⊎ (status ≡ exit.memory)
 
 -- the answer to an image: that to what is planned for the grown one, where it may be grown; else the status of its refusal

@@ -38,10 +38,11 @@ pub fn make_leaves_the_goal()
         → LeavesGoal number disk later bytes }
 {}
 
-/// Where the disk tells its bytes, each status but 0, 1, 4, 5 and 10 comes with a call of disk or sink that failed: 7 and 9. No other
-/// comes: the definitions of a number are there, and so is its source, which doesn't change. So `make` is complete: where no call
-/// fails, an image that may not be grown is refused with the status of its refusal, and one for which nothing can be planned with that
-/// of the demand; any other is made and compared, but for want of memory.
+/// Where the disk tells its bytes, each status but 0, 4, 5 and 10 comes with a call of disk or sink that failed: 7 and 9. No other
+/// comes: the definitions of a number are there, and so is its source, which doesn't change; and the image that was made differs in
+/// nothing from what is planned for it again. So `make` is complete: where no call fails, an image that may not be grown is refused
+/// with the status of its refusal, and one for which nothing can be planned with that of the demand; any other is made, but for want of
+/// memory.
 pub fn make_is_complete()
     ensures reasons { (number : ℕ) (disk later : Device) (out after : Output) (status : ℕ) → number ≤ 100
         → Makes number disk later out after status → (bytes : List ℕ) → disk.first ≡ Some bytes

@@ -1,4 +1,4 @@
--- What is planned for an image on which nothing is left to do, and what a refusal to plan tells.
+-- What is planned again for an image that was made, and what a refusal to plan tells.
 use Rattle.std.proofs.Common.{◌≡◌, ◌⊎◌, ◌∙◌, ℕ, ◌+◌, Bool, true, false, cond, List, [], ◌∷◌, length, get_or, Option, Some, None, IsSome, Result, Ok, Err, All, arith, refl, sym, ap, subst, inl, inr}
 use Rattle.std.specs.Prelude.{IfSome, ◌&&◌, is_some, nat_lt, not, option_map, slice_get}
 use Rattle.std.specs.List.{cons_option, enumerate_from, filter_map}
@@ -15,7 +15,9 @@ use Rattle.rp_demand.specs.declared.demand.Demand.{Demand}
 use Rattle.rp_disk.specs.History.{held}
 use Rattle.rp_disk.specs.Made.{history_of, history_told}
 use Rattle.rp_gpt.specs.declared.table_fault.TableFault.{TableFault}
-use Rattle.rp_idle.specs.Idle.{IsIdle}
+use Rattle.rp_difference.specs.Difference.{difference}
+use Rattle.rp_stops.specs.After.{seen_after}
+use Rattle.rp_unchanged.specs.Unchanged.{IsUnchanged}
 use Rattle.rp_io.specs.declared.stored.Stored.{Stored}
 use Rattle.rp_outcome.specs.Demands.{demand_refusal}
 use Rattle.rp_outcome.specs.Device.{Device}
@@ -32,39 +34,7 @@ use Rattle.rp_sizes.specs.declared.need.Fact.{Fact}
 use Rattle.rp_sizes.specs.declared.need.Need.{Need}
 use Rattle.rp_types.specs.declared.arch.Arch.TheVariants.{X86_64}
 
--- where each definition has a row, no source is wanted
-need_step : (new sourced : Bool) (need : Need) (rest : List Need) → new ≡ false → rest ≡ []
-    → cons_option (cond (new && sourced) (Some need) None) rest ≡ []
-need_step true sourced need rest is none = absurd (cc)
-need_step false sourced need rest is none = none
-
-has_row : (o : Option ℕ) → IsSome o → not (is_some o) ≡ false
-has_row None has = absurd (cc)
-has_row (Some place) has = refl
-
-module _ (matched : List (Option ℕ)) (each : All IsSome matched) where
-  no_needs : (n : ℕ) (list : List Definition) → n + length list ≡ length matched
-      → filter_map (need_of matched) (enumerate_from n list) ≡ []
-  no_needs n [] long = refl
-  no_needs n (definition ∷ list) long =
-      need_step (is_new matched n) (is_some definition.source) _ (filter_map (need_of matched) (enumerate_from (n + 1) list))
-      (has_row (get_or matched n None) (each n None (omega (arith, long)))) (no_needs (n + 1) list (omega (arith, long)))
-
-none_wanted : (seen : Seen) (list : List Definition) → All IsSome (matched_of seen.shown list) → wanted_of seen.shown list ≡ []
-none_wanted seen list each =
-    no_needs (matched_of seen.shown list) each 0 list
-    (let mapped = length-map (enumerate_from 0 (kinds_of list)) (match_of seen.shown.rows (kinds_of list)) in
-    let counted = length-enumerate_from 0 (kinds_of list) in
-    let kinds = length-map list (λ (d : Definition). d.kind) in omega (arith, mapped, counted, kinds))
-
-no_facts : (seed : Guid) (files : List Stored) (seen : Seen) (list : List Definition) → All IsSome (matched_of seen.shown list)
-    → facts seed files seen.shown list ≡ []
-unfolding facts
-no_facts seed files seen list each =
-    ap (filter_map (λ (need : Need). option_map (fact_from seed files need) (slice_get list need.file)))
-    (none_wanted seen list each)
-
-own_target : (seen : Seen) → target_of 0 seen ≡ seen.sectors
+pub own_target : (seen : Seen) → target_of 0 seen ≡ seen.sectors
 own_target seen = grind arith
 
 no_repair : (seen : Seen) → must_repair 0 seen ≡ false
@@ -74,16 +44,22 @@ no_repair seen =
       never : (n : ℕ) → nat_lt n n ≡ false
       never n = grind arith
 
--- for an image on which nothing is left to do there is a plan
-pub idle_planned : (seed : Guid) (list : List Definition) (image : List ℕ) (files : List Stored) → (idle : IsIdle 512 image list seed)
-    → planned_of (check_request seed X86_64 512) list image files ≡ Ok (with_seen idle.seen idle.plan)
-idle_planned seed list image files idle =
-    ap (λ (r : Result Seen TableFault). and_then (refused table_refusal r)
-    (λ seen. planned_unless (must_repair 0 seen) (check_request seed X86_64 512) list files seen)) idle.shows
-    ∙ ap (λ (b : Bool). planned_unless b (check_request seed X86_64 512) list files idle.seen) (no_repair idle.seen)
-    ∙ ap (planned_by (check_request seed X86_64 512) list idle.seen) (no_facts seed files idle.seen list idle.matched)
-    ∙ ap (λ (r : Result Plan Demand). and_then (refused (demand_refusal list) r) (λ plan. Ok (with_seen idle.seen plan)))
-    (ap (λ (t : ℕ). goal idle.seen t list [] seed) (own_target idle.seen) ∙ idle.goal_is)
+-- for an image that is as it was planned there is a plan, from which it differs in nothing
+pub planned_again : (seed : Guid) (list : List Definition) (image : List ℕ) (files : List Stored) (seen : Seen) (plan : Plan)
+    → IsUnchanged 512 image X86_64 seen plan list seed
+    → (again : Planned) × (planned_of (check_request seed X86_64 512) list image files ≡ Ok again)
+    × (difference image X86_64 again.seen again.plan ≡ None)
+planned_again seed list image files seen plan is =
+    let next = seen_after seen plan in
+    let same = is.again (facts seed files next.shown list) in (
+      with_seen next same.plan,
+      ap (λ (r : Result Seen TableFault). and_then (refused table_refusal r)
+          (λ seen. planned_unless (must_repair 0 seen) (check_request seed X86_64 512) list files seen)) is.shows
+          ∙ ap (λ (b : Bool). planned_unless b (check_request seed X86_64 512) list files next) (no_repair next)
+          ∙ ap (λ (r : Result Plan Demand). and_then (refused (demand_refusal list) r) (λ plan. Ok (with_seen next plan)))
+          (ap (λ (t : ℕ). goal next t list (facts seed files next.shown list) seed) (own_target next) ∙ same.goal_is),
+      same.same,
+    )
 
 -- a refusal to plan is the one that is told, or an object failed, or there was no memory
 same_err : {T : Type 0} (a b : Refusal) → ◌≡◌ {A = Result T Refusal} (Err a) (Err b) → a ≡ b
