@@ -3,6 +3,7 @@ pub mod Blank
 pub mod Complete
 pub mod Leaving
 pub mod Planned
+pub mod Promised
 pub mod Reached
 pub mod Room
 pub mod Rows

@@ -1,3 +1,4 @@
 pub mod Complete
 pub mod Leaves
+pub mod Promise
 pub mod Told

@@ -9,6 +9,7 @@ ghost use Rattle.rp_disk.specs.Runs.{MadeFirst};
 ghost use Rattle.rp_make_command.specs.Makes.{Makes};
 ghost use Rattle.rp_make_promise.specs.Complete.{AnswersImage, HasReason};
 ghost use Rattle.rp_make_promise.specs.Leaves.{IsLeftInMaking, LeavesGoal, make_calls};
+ghost use Rattle.rp_make_promise.specs.Promise.{MakePromise};
 ghost use Rattle.rp_make_promise.specs.Told.{TellsSummary};
 ghost use Rattle.rp_outcome.specs.Device.{Device};
 ghost use Rattle.rp_outcome.specs.Output.{Output};
@@ -51,4 +52,10 @@ pub fn make_is_complete()
         → Makes number disk later out after status → (bytes : List ℕ) → disk.first ≡ Some bytes
         → ¬ Rose disk.faults later.faults → ¬ Rose out.faults after.faults
         → AnswersImage number status (held (history_of bytes disk.calls)) }
+{}
+
+/// All of this, as one record.
+pub fn make_keeps_its_promise()
+    ensures { (number : ℕ) (disk later : Device) (out after : Output) (status : ℕ) → number ≤ 100
+        → Makes number disk later out after status → MakePromise number disk later out after status }
 {}
