@@ -8,6 +8,7 @@ ghost use Rattle.rp_cli.specs.Resetting.{AppliesResetAsked, IsRenewed, IsRenewed
 ghost use Rattle.rp_dissect_command.specs.Dissects.{Dissects};
 ghost use Rattle.rp_make_command.specs.Ends.{MakeEnds};
 ghost use Rattle.rp_make_command.specs.Makes.{Makes};
+ghost use Rattle.rp_make_promise.specs.Promise.{MakePromise};
 ghost use Rattle.rp_outcome.specs.Causes.{HasCauses};
 ghost use Rattle.rp_outcome.specs.Device.{IsOnlyRead, device};
 ghost use Rattle.rp_outcome.specs.Output.{Refuses, output};
@@ -174,6 +175,13 @@ pub fn run<D: Disk, F: Folders, S: Sources, K: Sink>(
         (store F.told F.faults F.strays folders.old)
         (device D.first D.calls D.faults D.strays disk.old) (device D.first D.calls D.faults D.strays disk.new)
         (store S.told S.faults S.strays sources.old)) }
+    // What `make` promises: over a disk that tells its bytes, the image is made wherever it may be and no call fails, and differs in nothing
+    // from what is planned for it again; at 0 the summary has the rows, the writes and the root hash; a stop at any moment leaves the image
+    // as it could have been at the start, in its growth, or with no table or the goal. Over every disk 8 never comes.
+    ensures made { IfOk (line_of (map string_bytes words.now)) (λ line. line.command ≡ Command.Make
+        → MakePromise line.number
+        (device D.first D.calls D.faults D.strays disk.old) (device D.first D.calls D.faults D.strays disk.new)
+        (output K.told K.faults out.old) (output K.told K.faults out.new) result) }
     // What is refused for definitions, image, demand or want of memory changes nothing.
     ensures untouched { IfOk (line_of (map string_bytes words.now)) (λ line. line.command ≡ Command.Apply → IsBefore result
         → LeavesAll
@@ -263,6 +271,9 @@ fn run_make<D: Disk, K: Sink>(alloc: Global, number: u8, disk: &mut D, out: &mut
         (device D.first D.calls D.faults D.strays disk.old) (device D.first D.calls D.faults D.strays disk.new)
         (output K.told K.faults out.old) (output K.told K.faults out.new) result }
     ensures ends { MakeEnds
+        (device D.first D.calls D.faults D.strays disk.old) (device D.first D.calls D.faults D.strays disk.new)
+        (output K.told K.faults out.old) (output K.told K.faults out.new) result }
+    ensures promise { number ≤ 100 → MakePromise number
         (device D.first D.calls D.faults D.strays disk.old) (device D.first D.calls D.faults D.strays disk.new)
         (output K.told K.faults out.old) (output K.told K.faults out.new) result }
     ensures files { number ≤ 100 → result ≢ 8 }

@@ -1,8 +1,9 @@
-use Rattle.std.proofs.Common.{map, refl, string_bytes, subst, sym, true≢false}
+use Rattle.std.proofs.Common.{◌≡◌, map, refl, string_bytes, subst, sym, true≢false}
 use Rattle.std.specs.Prelude.{◌≢◌, IfOk, IsErr}
 use Rattle.rp_cli.proofs.Numbered.{number_most}
 use Rattle.rp_cli.proofs.Policies.{compare_causes, compare_files, compare_words, dissect_causes, dissect_files, policy_causes, policy_files}
 use Rattle.rp_cli.proofs.Promised.{check_causes, check_files, check_only_read, check_words}
+use Rattle.rp_make_promise.specs.Promise.{MakePromise}
 use Rattle.rp_outcome.specs.Device.{device}
 use Rattle.rp_outcome.specs.Output.{output}
 use Rattle.rp_outcome.specs.Store.{store}
@@ -184,6 +185,16 @@ returns-in-Make-clause-files g c = record {
   failed = λ e. absurd (c.run_make.ensures.files (number_most (map string_bytes c.args.words.now) c.in-Ok.line (sym c.in-Ok.ensures.line)) e);
   kept = λ e. (refl, refl);
 }
+
+pub returns-in-Make-clause-made : goal.returns-in-Make-clause-made
+returns-in-Make-clause-made g c =
+    subst (λ answer. IfOk answer (λ line. line.command ≡ Make → MakePromise line.number
+    (device g.D.Disk.first g.D.Disk.calls g.D.Disk.faults g.D.Disk.strays c.args.disk.now)
+    (device g.D.Disk.first g.D.Disk.calls g.D.Disk.faults g.D.Disk.strays c.run_make.new.disk)
+    (output g.K.Sink.told g.K.Sink.faults c.args.out.now)
+    (output g.K.Sink.told g.K.Sink.faults c.run_make.new.out) c.run_make.result)) c.in-Ok.ensures.line
+    (λ e. c.run_make.ensures.promise
+    (number_most (map string_bytes c.args.words.now) c.in-Ok.line (sym c.in-Ok.ensures.line)))
 
 pub returns-in-Make-clause-words : goal.returns-in-Make-clause-words
 returns-in-Make-clause-words g c = (

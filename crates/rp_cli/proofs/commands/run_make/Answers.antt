@@ -1,5 +1,6 @@
 use Rattle.rp_make_command.proofs.Ended.{ends_so}
 use Rattle.rp_make_command.proofs.Unfailed.{never_files}
+use Rattle.rp_make_promise.proofs.Promised.{promise_so}
 use Rattle.rp_outcome.specs.Device.{device}
 use Rattle.rp_outcome.specs.Output.{output}
 use Rattle.rp_cli.proofs.commands.run_make.Goals as goal
@@ -16,6 +17,15 @@ pub returns-clause-files : goal.returns-clause-files
 returns-clause-files g c =
     λ high.
     never_files c.args.number (device g.D.Disk.first g.D.Disk.calls g.D.Disk.faults g.D.Disk.strays c.args.disk.now)
+    (device g.D.Disk.first g.D.Disk.calls g.D.Disk.faults g.D.Disk.strays c.make.new.disk)
+    (output g.K.Sink.told g.K.Sink.faults c.args.out.now)
+    (output g.K.Sink.told g.K.Sink.faults c.make.new.out)
+    c.make.result high c.make.ensures
+
+pub returns-clause-promise : goal.returns-clause-promise
+returns-clause-promise g c =
+    λ high.
+    promise_so c.args.number (device g.D.Disk.first g.D.Disk.calls g.D.Disk.faults g.D.Disk.strays c.args.disk.now)
     (device g.D.Disk.first g.D.Disk.calls g.D.Disk.faults g.D.Disk.strays c.make.new.disk)
     (output g.K.Sink.told g.K.Sink.faults c.args.out.now)
     (output g.K.Sink.told g.K.Sink.faults c.make.new.out)
