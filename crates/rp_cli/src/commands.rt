@@ -175,9 +175,9 @@ pub fn run<D: Disk, F: Folders, S: Sources, K: Sink>(
         (store F.told F.faults F.strays folders.old)
         (device D.first D.calls D.faults D.strays disk.old) (device D.first D.calls D.faults D.strays disk.new)
         (store S.told S.faults S.strays sources.old)) }
-    // What `make` promises: over a disk that tells its bytes, the image is made wherever it may be and no call fails, and differs in nothing
-    // from what is planned for it again; at 0 the summary has the rows, the writes and the root hash; a stop at any moment leaves the image
-    // as it could have been at the start, in its growth, or with no table or the goal. Over every disk 8 never comes.
+    // What `make` promises: over a disk that tells its bytes, the image is made wherever it may be and no call fails, and differs in
+    // nothing from what is planned for it again; at 0 the summary has the rows, the writes and the root hash; a stop at any moment
+    // leaves the image as it could have been at the start, in its growth, or with no table or the goal. Over every disk 8 never comes.
     ensures made { IfOk (line_of (map string_bytes words.now)) (λ line. line.command ≡ Command.Make
         → MakePromise line.number
         (device D.first D.calls D.faults D.strays disk.old) (device D.first D.calls D.faults D.strays disk.new)
