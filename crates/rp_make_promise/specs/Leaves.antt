@@ -45,7 +45,7 @@ make_calls number old = Sync ∷ calls_behind number old (room_in old)
 -- what new rows hold
 abbrev pub contents_for : ℕ → List ℕ → Definitions → Planned → Contents
 contents_for number image definitions planned =
-  contents planned.plan (Given definitions.list (source_files number)) (grown image planned.plan)
+    contents planned.plan (Given definitions.list (source_files number)) (grown image planned.plan)
 
 -- a stop in the growth: no other call was made
 abbrev pub IsInGrowth : List ℕ → List Call → List ℕ → Type 0
