@@ -1,28 +1,22 @@
-#!/usr/bin/env python3
 """Stops `repart apply` at each moment, and looks at what is left.
 
-    tools/torture [OPTION...] IMAGE FOLDER...
+The program is run once on a copy of an image, and strace(1) records its calls: writes, syncs, changes of length. Then the images are
+made that a power failure may leave: all calls up to a sync are done, and each write behind it, up to the next sync, is done whole, not
+at all, up to one of its sectors of 512 bytes, or has a torn sector there; in every combination, so in every order too. Where there are
+more than the bound of them, every single write is cut and the rest is chosen by chance. Of each such image is checked:
 
-The program is run once on a copy of IMAGE by the definitions of the folders, and strace(1) records its calls: writes, syncs,
-changes of length. Then the images are made that a power failure may leave: all calls up to a sync are done, and each write
-behind it, up to the next sync, is done whole, not at all, up to one of its sectors of 512 bytes, or has a torn sector there;
-in every combination, so in every order too. Where there are more than --bound of them, every single write is cut and the
-rest is chosen by chance; how many were tried of how many there are is printed. Of each such image is checked:
-
-- `show` shows the table that IMAGE shows, or the goal, and refuses nothing that isn't refused of IMAGE; with --factory-reset=on
+- `show` shows the table that the image shows, or the goal, and refuses nothing that isn't refused of the image; with --factory-reset=on
   it may also show the table without the rows that are taken out;
-- each partition of IMAGE that is shown holds its bytes; where the goal is shown, new partitions hold theirs;
+- each partition of the image that is shown holds its bytes; where the goal is shown, new partitions hold theirs;
 - sfdisk(8), where it is there, finds the same table (none too, where there was none or the protective MBR isn't written yet);
-- `apply` with the same words ends with 0 and leaves the goal, byte for byte, and then has nothing left to do (where the
-  plan dropped a definition: ends with 0 or 5, and old partitions hold their bytes); once the rows are taken out, it goes on
-  without --factory-reset=on. Where the image is to grow after a reset and shows its backup, it first repairs without --size, and
-  then old partitions hold their bytes and nothing is left to do.
+- `apply` with the same words ends with 0 and leaves the goal, byte for byte, and then has nothing left to do (where the plan dropped a
+  definition: ends with 0 or 5, and old partitions hold their bytes); once the rows are taken out, it goes on without
+  --factory-reset=on. Where the image is to grow after a reset and shows its backup, it first repairs without --size, and then old
+  partitions hold their bytes and nothing is left to do.
 
-A torn sector is what the disk's promise is about: a header that is torn is found by its checksum, but by chance. The program
-is $REPART, or that of this repository. Nothing but copies is written to. Ends with 0, 1 where something is wrong, or 77 where
-strace or the command apply isn't there.
+A torn sector is what the disk's promise is about: a header that is torn is found by its checksum, but by chance. Nothing but copies is
+written to.
 """
-import argparse
 import collections
 import itertools
 import math
@@ -32,20 +26,18 @@ import random
 import re
 import shutil
 import subprocess
-import sys
-import tempfile
 
-TOP = pathlib.Path(__file__).resolve().parent.parent
-REPART = os.environ.get("REPART", str(TOP / "tools" / "repart"))
+from lib.gpt import rows_of
+from lib.images import random_bytes
+from lib.program import REPART, SEED, asked, run
+
 SECTOR = 512
 CALL = re.compile(r'(?:\d+ +)?(\w+)\((\d+)<((?:\\x[0-9a-f]{2})*)>(?:, )?(.*)\) += (-?\d+)')
-ROW = re.compile(r'^(\d+) \S+ start (\d+) size (\d+) id \S+ attrs \S+ name ".*"$', re.M)
 NO_TABLE = "error 4 NoTable\n"
 
 
-def run(words, **more):
-    answer = subprocess.run(list(map(str, words)), stdout=subprocess.PIPE, stderr=subprocess.PIPE, **more)
-    return answer.returncode, answer.stdout.decode(errors="replace"), answer.stderr.decode(errors="replace")
+class NotRecorded(Exception):
+    """What keeps the calls from being recorded whole."""
 
 
 def unescaped(text):
@@ -56,12 +48,13 @@ def copy(source, target):
     subprocess.run(["cp", "--sparse=always", source, target], check=True)
 
 
-def recorded(words, image, log):
+def recorded(words, image, log, folder):
     """The calls that change the image while a program runs, and how it ends."""
-    status, out, err = run(["strace", "-f", "-y", "-xx", "-s", 1 << 24, "-o", log,
-                            "-e", "trace=lseek,write,pwrite64,writev,pwritev,fsync,fdatasync,sync_file_range,ftruncate,fallocate", *words])
+    answer = asked("strace", "-f", "-y", "-xx", "-s", str(1 << 24), "-o", log, "-e",
+                   "trace=lseek,write,pwrite64,writev,pwritev,fsync,fdatasync,sync_file_range,ftruncate,fallocate", *words,
+                   cwd=folder)
     if not os.path.exists(log):
-        sys.exit(f"torture: strace records nothing: {err}")
+        raise NotRecorded(f"strace records nothing: {answer.err}")
     calls, places = [], {}
     wanted = os.path.realpath(image).encode()
     with open(log, encoding="ascii", errors="replace") as file:
@@ -71,13 +64,13 @@ def recorded(words, image, log):
                 continue
             name, handle, given, result = found[1], found[2], found[4], int(found[5])
             if result < 0:
-                sys.exit(f"torture: a call failed while it was recorded: {name} {given[:60]} = {result}")
+                raise NotRecorded(f"a call failed while it was recorded: {name} {given[:60]} = {result}")
             if name == "lseek":
                 places[handle] = result
             elif name in ("write", "pwrite64"):
                 text, _, rest = given[1:].partition('"')
                 if rest.startswith("..."):
-                    sys.exit("torture: strace cut a write")
+                    raise NotRecorded("strace cut a write")
                 at = int(rest.split(", ")[-1]) if name == "pwrite64" else places.get(handle, 0)
                 calls.append(("write", at, unescaped(text)[:result]))
                 if name == "write":
@@ -87,9 +80,9 @@ def recorded(words, image, log):
             elif name == "ftruncate":
                 calls.append(("length", int(given.split(", ")[-1])))
             else:
-                sys.exit(f"torture: a call that isn't known here: {name}")
+                raise NotRecorded(f"a call that isn't known here: {name}")
     os.unlink(log)
-    return calls, status, out, err
+    return calls, answer
 
 
 def blocks_of(calls):
@@ -125,7 +118,7 @@ def remains_of(call, dice):
     for cut in cuts:
         part = data[cut:cut + SECTOR - (at + cut) % SECTOR]
         torn = [part[:end] for end in range(4, len(part), 4)]
-        torn += [dice.randbytes(SECTOR) for _ in range(8)] if len(part) == SECTOR else []
+        torn += [random_bytes(dice, SECTOR) for _ in range(8)] if len(part) == SECTOR else []
         found += [(cut, bytes_) for bytes_ in (torn if len(cuts) == 1 else dice.sample(torn, min(1, len(torn))))]
     return found
 
@@ -136,11 +129,10 @@ def left(call, remains):
 
 
 def choices_of(block, bound, dice):
-    """Choices of what is left of each call of a block, and how many there are in all."""
+    """Choices of what is left of each call of a block."""
     kinds = [remains_of(call, dice) for call in block]
-    many = math.prod(map(len, kinds))
-    if many <= bound:
-        return list(itertools.product(*kinds)), many
+    if math.prod(map(len, kinds)) <= bound:
+        return list(itertools.product(*kinds))
     whole = [(len(call[2]) if call[0] == "write" else 0, b"") for call in block]
     # each single call in each way, with all others whole, all others lost, or all before it whole and all behind it lost
     singles = [(place, one) for place, remains in enumerate(kinds) for one in remains]
@@ -154,52 +146,56 @@ def choices_of(block, bound, dice):
         found.append(tuple(whole[:place] + [one] + [None] * (len(block) - place - 1)))
     while len(found) < bound:
         found.append(tuple(dice.choice([None, full, dice.choice(remains)]) for full, remains in zip(whole, kinds)))
-    return list(dict.fromkeys(found))[:bound], many
+    return list(dict.fromkeys(found))[:bound]
 
 
 class Torture:
-    def __init__(self, words, folder):
-        self.words, self.folder, self.wrong, self.tried = words, pathlib.Path(folder), [], 0
+    """An image, the folder of a run beside it, and the words of `apply`; `empty` is that of the first run."""
+
+    def __init__(self, folder, image, words, bound, empty="allow"):
+        self.folder, self.image, self.bound, self.empty, self.wrong, self.tried = pathlib.Path(folder), image, bound, empty, [], 0
         self.seen = collections.Counter()
-        self.sectors = [f"--sector-size={words.sector_size}"] if words.sector_size != 512 else []
-        self.options = [f"--definitions={':'.join(words.folders)}", f"--seed={words.seed}", *self.sectors]
-        self.size = [f"--size={words.size}"] if words.size else []
-        self.reset = ["--factory-reset=on"] if words.factory_reset == "on" else []
+
+        def given(name):
+            return [word for word in words if word.startswith(f"--{name}=")]
+
+        self.sectors, self.size, self.reset = given("sector-size"), given("size"), given("factory-reset")
+        self.options = [*given("definitions"), SEED, *self.sectors]
         self.old, self.base, self.stop = (self.folder / name for name in ("old", "base", "stop"))
         self.peer = bool(shutil.which("sfdisk"))
 
     def show(self, path):
         """What `show` says of the table, without what copies are there and how long the image is."""
-        status, out, _ = run([REPART, "show", *self.sectors, path])
+        status, out, _ = run("show", *self.sectors, path)
         if status:
             return out
         return re.sub(r"^table \w+ sectors \d+", "table", re.sub(r"^copies .*\n", "", out, flags=re.M))
 
     def sfdisk(self, path):
         """What sfdisk finds, or none. It wants a protective MBR."""
-        words = ["sfdisk", "--dump", path] if not self.sectors else ["sfdisk", "--dump", "--sector-size", self.words.sector_size, path]
-        status, out, _ = run(words)
+        status, out, _ = asked("sfdisk", "--dump", *self.sectors, path)
         if status or "label: gpt" not in out:
             return None
         return [line.split(" : ", 1)[1] for line in out.splitlines() if " : " in line], re.findall(r"^label-id: .*$", out, re.M)
 
     def apply(self, path, empty, *more):
-        return run([REPART, "apply", f"--empty={empty}", *more, *self.options, path])
+        return run("apply", f"--empty={empty}", *more, *self.options, path, cwd=self.folder)
 
     def prepare(self):
         """Runs the program once, and keeps its calls and what is to be there behind them."""
-        copy(self.words.image, self.old)
-        copy(self.words.image, self.stop)
-        self.calls, status, out, err = recorded([REPART, "apply", f"--empty={self.words.empty}", *self.reset, *self.size, *self.options, self.stop],
-                                                self.stop, self.folder / "log")
+        copy(self.image, self.old)
+        copy(self.image, self.stop)
+        words = [REPART, "apply", f"--empty={self.empty}", *self.reset, *self.size, *self.options, self.stop]
+        self.calls, (status, out, err) = recorded(words, self.stop, self.folder / "log", self.folder)
         if status:
-            sys.exit(f"torture: apply ended with status {status}: {out}{err}")
+            raise NotRecorded(f"apply ended with status {status}: {out}{err}")
         self.dropped = "\ndropped " in out
         self.final = self.stop.read_bytes()
         copy(self.old, self.base)
         self.had, self.goal = self.show(self.old), self.show(self.stop)
         taken = {int(slot) for slot in re.findall(r"^reset (\d+)$", out, re.M)}
-        self.left = "".join(line for line in self.had.splitlines(True) if not (ROW.match(line) and int(line.split()[0]) in taken))
+        old, new = rows_of(self.had), rows_of(self.goal)
+        self.left = "".join(line for line in self.had.splitlines(True) if not set(rows_of(line)) & taken)
         peers = {}
         with open(self.base, "r+b") as file:
             for call in self.calls:
@@ -208,16 +204,14 @@ class Torture:
                 if self.peer and taken and call[0] == "sync" and self.show(self.base) == self.left:
                     peers[self.left] = self.sfdisk(self.base)
         if self.base.read_bytes() != self.final:
-            sys.exit("torture: the recorded calls aren't all that changed the image")
+            raise NotRecorded("the recorded calls aren't all that changed the image")
         copy(self.old, self.base)
         # what sfdisk finds where each of the tables is shown
         self.peers = {**peers, **({self.had: self.sfdisk(self.old), self.goal: self.sfdisk(self.stop)} if self.peer else {})}
-        old = {int(slot): (512 * int(start), 512 * int(size)) for slot, start, size in ROW.findall(self.had)}
-        new = {int(slot): (512 * int(start), 512 * int(size)) for slot, start, size in ROW.findall(self.goal)
-               if int(slot) not in old or int(slot) in taken}
         was = self.old.read_bytes()
-        self.old_bytes = [(slot, at, was[at:at + size], slot in taken) for slot, (at, size) in old.items()]
-        self.new_bytes = [(slot, at, self.final[at:at + size]) for slot, (at, size) in new.items()]
+        self.old_bytes = [(slot, 512 * row.start, was[512 * row.start:512 * (row.start + row.size)], slot in taken) for slot, row in old.items()]
+        self.new_bytes = [(slot, 512 * row.start, self.final[512 * row.start:512 * (row.start + row.size)]) for slot, row in new.items()
+                          if slot not in old or slot in taken]
 
     def fault_of(self, has_mbr):
         """What is wrong with the image that is left, or none."""
@@ -239,7 +233,7 @@ class Torture:
             wanted = self.peers.get(shown, self.peers[self.had])
             if table != wanted and not (table is None and (self.peers[self.had] is None or not has_mbr)):
                 return f"sfdisk finds {table}"
-        words = ["allow" if self.words.empty == "require" else self.words.empty, *(self.reset if shown == self.had else [])]
+        words = ["allow" if self.empty == "require" else self.empty, *(self.reset if shown == self.had else [])]
         status, out, err = self.apply(self.stop, *words, *self.size)
         repaired = self.reset and self.size and out == "error 4 RepairFirst\n"
         if repaired:
@@ -265,8 +259,7 @@ class Torture:
 
     def stops_of(self, place, block, dice):
         """Tries the images that a stop within a block may leave; the base has all that is before it."""
-        choices, many = choices_of(block, self.words.bound, dice)
-        for choice in choices:
+        for choice in choices_of(block, self.bound, dice):
             copy(self.base, self.stop)
             with open(self.stop, "r+b") as file:
                 for call, remains in zip(block, choice):
@@ -281,54 +274,17 @@ class Torture:
                                  for one in choice[:6])
                 self.wrong.append(f"behind {place} calls, of {len(block)} more is left: {told}: {fault}")
                 if len(self.wrong) >= 10:
-                    return len(choices), many
-        return len(choices), many
+                    return
 
     def all(self):
+        """Tries what a stop leaves at each moment; gives what was tried, in words. What is wrong is in `wrong`."""
         dice = random.Random(1)
-        kinds = collections.Counter(call[0] for call in self.calls)
-        print(f"{len(self.calls)} calls: " + ", ".join(f"{many} of {kind}" for kind, many in kinds.items()))
         for place, block in blocks_of(self.calls):
-            tried, many = self.stops_of(place, block, dice)
-            what = "; ".join(f"{len(call[2])} bytes at {call[1]}" if call[0] == "write" else f"length {call[1]}" for call in block[:3])
-            told = many if many < 10 ** 9 else f"about 10^{math.log10(many):.0f}"
-            what = f", {len(block)} pending ({what}{' ..' if len(block) > 3 else ''})" if block else ", none pending"
-            print(f"behind {place} calls{what}: {tried} of {told} images", flush=True)
+            self.stops_of(place, block, dice)
             if len(self.wrong) >= 10:
                 break
             with open(self.base, "r+b") as file:
                 for call in block:
                     do(file, call)
-        for fault in self.wrong:
-            print(f"torture: {fault}", file=sys.stderr)
-        print(f"{self.tried} images were tried ({', '.join(f'{many} {word}' for word, many in self.seen.most_common())}), "
-              f"{len(self.wrong) or 'nothing'} was wrong" + (", sfdisk agrees" if self.peer and not self.wrong else ""))
-        return 1 if self.wrong else 0
-
-
-def main():
-    parser = argparse.ArgumentParser(description=__doc__, formatter_class=argparse.RawDescriptionHelpFormatter)
-    parser.add_argument("image", metavar="IMAGE")
-    parser.add_argument("folders", metavar="FOLDER", nargs="+")
-    parser.add_argument("--bound", type=int, default=100, help="the most images for each sync (default 100)")
-    parser.add_argument("--empty", default="allow", choices=["refuse", "allow", "require"])
-    parser.add_argument("--size", help="the bytes that the image is to have, as for apply")
-    parser.add_argument("--factory-reset", default="off", choices=["off", "on"])
-    parser.add_argument("--seed", default="00000000-0000-0000-0000-000000000001")
-    parser.add_argument("--sector-size", type=int, default=512, choices=[512, 4096])
-    words = parser.parse_args()
-    os.environ["PATH"] = os.environ.get("PATH", "") + ":/usr/sbin:/sbin"
-    if not shutil.which("strace") or run(["strace", "-o", "/dev/null", "true"])[0]:
-        print("torture: skipped: no strace, or it may trace nothing", file=sys.stderr)
-        return 77
-    if not re.search("^repart apply ", run([REPART, "--help"])[1], re.M):
-        print("torture: skipped: this repart has no command apply", file=sys.stderr)
-        return 77
-    with tempfile.TemporaryDirectory() as folder:
-        torture = Torture(words, folder)
-        torture.prepare()
-        return torture.all()
-
-
-if __name__ == "__main__":
-    sys.exit(main())
+        return (f"{len(self.calls)} calls, {self.tried} images were tried ({', '.join(f'{many} {word}' for word, many in self.seen.most_common())}), "
+                f"{len(self.wrong) or 'nothing'} was wrong" + (", sfdisk agrees" if self.peer and not self.wrong else ""))

@@ -1,8 +1,5 @@
 #!/usr/bin/env python3
-"""Shows why the calls of `apply` stand in their order: for small images, all that a stop may leave of the order as it is, and of
-each wrong order the image that breaks it.
-
-    tools/check-orders [--verbose]
+"""The calls of `apply` stand in an order of which each stop leaves the old table or the goal, and wrong orders are broken by an image.
 
 Nothing is run: the calls of small plans are made here, by the rules of docs/FORMATS.md, and what a stop leaves is read by a reader
 of its own. The calls are parts, each ended by a sync: the growth, the contents of new partitions, of each copy its header closed
@@ -13,69 +10,26 @@ made to pass its checksum: that it doesn't is what the promise rests on. Then th
 the bytes of old partitions, and, where the goal is shown, those of new ones.
 
 The wrong orders are: each sync left out, each two parts that follow one another exchanged, the copies exchanged, and the contents
-behind the copies. With --verbose it is printed of each what breaks it, or that nothing does. Ends with 1 where the order as it is
-breaks, or where other wrong orders break than are noted here for each image.
+behind the copies. The test fails where the order as it is breaks, or where other wrong orders break than are noted here for each
+image.
 """
 import functools
-import importlib.machinery
-import importlib.util
 import itertools
-import pathlib
 import random
 import struct
-import sys
 import uuid
 import zlib
 
-TOP = pathlib.Path(__file__).resolve().parent.parent
-HOME = "933ac7e1-2eb4-4f13-b844-0e14e2aef915"
+from lib import gpt
+from lib.images import random_bytes
+from lib.program import end, wrong
+
 FIRST, LAST = "first copy", "last copy"
-
-
-def module(path):
-    """A tool of this folder as a module."""
-    sys.dont_write_bytecode = True
-    loader = importlib.machinery.SourceFileLoader(path.name.replace("-", "_"), str(path))
-    made = importlib.util.module_from_spec(importlib.util.spec_from_loader(loader.name, loader))
-    loader.exec_module(made)
-    return made
-
-
-IMAGES = module(TOP / "tools" / "make-image")
-
-
-# The reader: what an image shows.
-
-def header_at(image, at, sector, lba, array_lba):
-    """The header in a sector, if it is valid in itself: the sum over its array, its bounds and its disk."""
-    head = image[at:at + sector]
-    if len(head) < sector or head[:8] != b"EFI PART":
-        return None
-    _, revision, size, crc, _, my_lba, _, first, last, disk, array, entries, each, array_crc = struct.unpack_from("<8sIIIIQQQQ16sQIII", head)
-    if revision != 0x10000 or not 92 <= size <= sector or crc != zlib.crc32(head[:16] + bytes(4) + head[20:size]):
-        return None
-    return (array_crc, first, last, disk) if (my_lba, array, entries, each) == (lba, array_lba, 128, 128) else None
-
-
-def table_at(image, sector, which):
-    """The table that a copy tells, or none."""
-    sectors, array_sectors = len(image) // sector, IMAGES.array_sectors(128, sector)
-    lba, array_lba = (1, 2) if which == "primary" else (sectors - 1, sectors - 1 - array_sectors)
-    found = header_at(image, lba * sector, sector, lba, array_lba)
-    array = image[array_lba * sector:array_lba * sector + 16384]
-    if found is None or zlib.crc32(array) != found[0]:
-        return None
-    entries = [array[at:at + 128] for at in range(0, 16384, 128)]
-    return (*found[1:], tuple((slot, entry) for slot, entry in enumerate(entries) if entry[:16] != bytes(16)))
-
-
-def shown(image, sector):
-    return table_at(image, sector, "primary") or table_at(image, sector, "backup")
 
 
 # Bytes by which a sum comes out as it is wanted.
 
-@functools.cache
+@functools.lru_cache(maxsize=None)
 def patches(tail):
     """How each bit of the four bytes that stand so far from the end changes a CRC-32, as a basis: changes with their bits."""
     basis = {}
@@ -103,7 +57,7 @@ def forged(data, at, wanted):
 # The plans.
 
 def entry(first, last, name, number):
-    return IMAGES.entry(HOME, str(uuid.UUID(int=number)), first, last, name=name)
+    return gpt.entry("home", str(uuid.UUID(int=number)), first, last, name=name)
 
 
 class Case:
@@ -111,10 +65,10 @@ class Case:
 
     def __init__(self, name, old, goal, rows, new, order, grows=False, sector=512, mbr=False):
         self.name, self.old, self.goal, self.sector = name, old, goal, sector
-        sectors, array_sectors = len(goal) // sector, IMAGES.array_sectors(128, sector)
+        sectors, array_sectors = len(goal) // sector, gpt.array_sectors(sector=sector)
         self.rows = [(at * sector, old[at * sector:(last + 1) * sector]) for at, last in rows]
         self.new = [(at * sector, goal[at * sector:(last + 1) * sector]) for at, last in new]
-        self.had, self.wanted = shown(old, sector), shown(goal, sector)
+        self.had, self.wanted = gpt.table_of(old, sector), gpt.table_of(goal, sector)
         self.parts = [("growth", [("length", len(goal))])] if grows else []
         self.parts.append(("contents", [("write", at, data) for at, data in self.new]))
         for label, which in zip((FIRST, LAST), order):
@@ -129,7 +83,7 @@ class Case:
         """What is wrong with an image that is left, or none."""
         if len(image) not in (len(self.old), len(self.goal)):
             return "it has another length"
-        table = shown(image, self.sector)
+        table = gpt.table_of(image, self.sector)
         if table not in (self.had, self.wanted):
             return "it shows no table" if table is None else "it shows a table that is neither the old one nor the goal"
         if any(image[at:at + len(data)] != data for at, data in self.rows):
@@ -144,8 +98,8 @@ def cases():
     both = {**rows, 1: entry(48, 55, "new", 2)}
 
     def image(sectors, rows, sector=512):
-        last = sectors - 2 - IMAGES.array_sectors(128, sector)
-        made = bytearray(IMAGES.image(sectors, 34 if sector == 512 else 6, last, rows, sector=sector))
+        last = sectors - 2 - gpt.array_sectors(sector=sector)
+        made = bytearray(gpt.image(sectors, 34 if sector == 512 else 6, last, rows, sector=sector))
         for slot, row in rows.items():
             first, end = struct.unpack_from("<QQ", row, 32)
             made[first * sector:(end + 1) * sector] = bytes([0xA0 + slot]) * ((end + 1 - first) * sector)
@@ -204,10 +158,10 @@ def done(image, call):
 
 def torn_arrays(image, sector, at):
     """A sector of an array with a partition that nobody asked for, and bytes by which a valid header takes it."""
-    sectors, array_sectors = len(image) // sector, IMAGES.array_sectors(128, sector)
+    sectors, array_sectors = len(image) // sector, gpt.array_sectors(sector=sector)
     for lba, array_lba in ((1, 2), (sectors - 1, sectors - 1 - array_sectors)):
         begin = array_lba * sector
-        head = header_at(image, lba * sector, sector, lba, array_lba)
+        head = gpt.header_at(image, lba * sector, sector, lba, array_lba)
         if head is None or not begin <= at < begin + 16384:
             continue
         array = bytearray(image[begin:begin + 16384])
@@ -224,13 +178,13 @@ def left(image, choice, sector, dice):
         if call is None:
             continue
         if call[0] == "any":
-            image = done(image, ("write", call[1], dice.randbytes(call[2])))
+            image = done(image, ("write", call[1], random_bytes(dice, call[2])))
         elif call[0] == "torn":
             image = done(image, ("write", call[1], call[2]))
             torn.append(call[3])
         else:
             image = done(image, call)
-    yield image if not torn else done(image, ("write", torn[0], dice.randbytes(512)))
+    yield image if not torn else done(image, ("write", torn[0], random_bytes(dice, 512)))
     for at in torn:
         yield from torn_arrays(image, sector, at)
 
@@ -299,27 +253,18 @@ MUST = {
 }
 
 
-def main(words):
-    failed = False
-    for case in cases():
-        fault, tried = broken_by(case, case.parts, set(range(len(case.parts))))
-        print(f"{case.name}: {len(case.parts)} parts, {tried} images: " + (fault or "each shows the old table or the goal"))
-        found, total = set(), 0
-        for name, parts, syncs in wrong_orders(case):
-            wrong, tried = broken_by(case, parts, syncs)
-            total += 1
-            if wrong:
-                found.add(name)
-            if "--verbose" in words:
-                print(f"  {name}: {wrong or f'nothing breaks it, of {tried} images'}")
-        print(f"  of {total} wrong orders {len(found)} are broken by an image")
-        for name in sorted(found.symmetric_difference(MUST[case.name])):
-            print(f"check-orders: {case.name}: {name}: {'an image breaks it' if name in found else 'nothing breaks it'}", file=sys.stderr)
-        failed = failed or bool(fault) or found != set(MUST[case.name])
-    return 1 if failed else 0
-
-
-if __name__ == "__main__":
-    if sys.argv[1:] not in ([], ["--verbose"]):
-        sys.exit(__doc__)
-    sys.exit(main(sys.argv[1:]))
+for case in cases():
+    fault, tried = broken_by(case, case.parts, set(range(len(case.parts))))
+    print(f"{case.name}: {len(case.parts)} parts, {tried} images: " + (fault or "each shows the old table or the goal"), flush=True)
+    if fault:
+        wrong(f"{case.name}: {fault}")
+    found, total = set(), 0
+    for name, parts, syncs in wrong_orders(case):
+        broken, _ = broken_by(case, parts, syncs)
+        total += 1
+        if broken:
+            found.add(name)
+    print(f"  of {total} wrong orders {len(found)} are broken by an image", flush=True)
+    for name in sorted(found.symmetric_difference(MUST[case.name])):
+        wrong(f"{case.name}: {name}: {'an image breaks it' if name in found else 'nothing breaks it'}")
+end()
