@@ -1,20 +1,20 @@
 #!/usr/bin/env python3
-"""Holds docs/migrate.md against the program: each option and key that it names is read, refused by name, ignored or unknown as it
-says there, and each key of the manual is in it. Last, tools/try-migrate finds both programs of one mind on a folder that has
-nothing in it that is read otherwise; that is left out where systemd-repart isn't there.
+"""docs/migrate.md says what the program does with each option and key of systemd-repart.
 
-The program is $REPART, or that of this repository. Ends with 1 where an answer differs.
+Each that it names is read, refused by name, ignored or unknown as it says there, and each key of the manual is in it. Last,
+tools/try-migrate finds both programs of one mind on a folder that has nothing in it that is read otherwise.
+
+Needs: for the last part systemd-repart
 """
-import os
 import pathlib
 import re
-import shutil
-import subprocess
 import sys
 import tempfile
 
-TOP = pathlib.Path(__file__).resolve().parent.parent
-REPART = os.environ.get("REPART", TOP / "tools" / "repart")
+from lib import definitions
+from lib.images import sparse
+from lib.program import TOP, asked, end, expect, has, run, wrong
+
 SEED = "00000000-0000-0000-0000-000000000001"
 
 # A value of each key and option that one can't do without, and what it needs beside it.
@@ -36,25 +36,21 @@ def rows_of(text, heading):
 
 
 def plan(folder, words, lines):
-    """The status of planning one definition with these words, and the first line that is printed."""
-    definitions = pathlib.Path(folder, "repart.d")
-    definitions.mkdir(exist_ok=True)
-    (definitions / "x.conf").write_text("\n".join(["[Partition]", "Type=home", *lines]) + "\n")
+    """What is answered to a plan of one definition with these words."""
+    definitions.write(folder / "repart.d", {"x.conf": "\n".join(["Type=home", *lines]) + "\n"})
     named = {word.split("=")[0] for word in words}
     needed = (("--definitions", "repart.d"), ("--seed", SEED), ("--empty", "allow"))
-    given = [f"{name}={value}" for name, value in needed if name not in named]
-    answer = subprocess.run([REPART, "plan", *given, *words, "image"], cwd=folder, capture_output=True, text=True)
-    return answer.returncode, answer.stdout, answer.stderr
+    return run("plan", *(f"{name}={value}" for name, value in needed if name not in named), *words, "image", cwd=folder)
 
 
-def keys(folder, text, faults):
+def keys(folder, text):
     """The keys: each assignment of the table, and each key of the manual."""
     named = set()
     for names, word in rows_of(text, "Keys of `[Partition]`"):
         for key, value in re.findall(r"([A-Z][A-Za-z]+)=([a-z]*)", names):
             named.add(key)
             if key not in VALUES:
-                faults.append(f"{key}=: no value to try")
+                wrong(f"{key}=: no value to try")
                 continue
             lines = ["VerityMatchKey=m"] if value in ("data", "hash") else []
             status, out, _ = plan(folder, [], lines + [f"{key}={value or VALUES[key]}"])
@@ -62,18 +58,18 @@ def keys(folder, text, faults):
             wanted = f"error 3 x.conf:{3 + len(lines)} Unsupported {key}\n" if word == "refused" else \
                 "error 3 x.conf:0 VerityPair\n" if lines else None
             if (wanted and out != wanted) or (not wanted and status != 0):
-                faults.append(f"{key}={value}: {word}, but it prints {out!r}")
-            if key in OFF and plan(folder, [], [f"{key}={OFF[key]}"])[0] != 0:
-                faults.append(f"{key}={OFF[key]} is refused")
-    status, out, _ = plan(folder, [], ["MakeSymlinks=/a:/b"])
+                wrong(f"{key}={value}: {word}, but it prints {out!r}")
+            if key in OFF and plan(folder, [], [f"{key}={OFF[key]}"]).status != 0:
+                wrong(f"{key}={OFF[key]} is refused")
+    out = plan(folder, [], ["MakeSymlinks=/a:/b"]).out
     if "\nignored 1\n" not in out:
-        faults.append(f"an unknown key: {out!r}")
-    manual = (TOP / "docs" / "repart.d.5").read_text().split(".Sh KEYS")[1].split("All other keys are unknown")[0]
+        wrong(f"an unknown key: {out!r}")
+    manual = (TOP / "docs" / "repart.d.5").read_text(encoding="utf-8").split(".Sh KEYS")[1].split("All other keys are unknown")[0]
     for key in sorted(set(re.findall(r"\bCm ([A-Z][A-Za-z]+) Ns =", manual)) - named):
-        faults.append(f"{key}= is in repart.d.5 alone")
+        wrong(f"{key}= is in repart.d.5 alone")
 
 
-def options(folder, text, faults):
+def options(folder, text):
     """The options: which are read, and which are unknown."""
     good = {"--empty": ["refuse", "allow", "require"], "--size": ["100M"], "--seed": [SEED, SEED.replace("-", "")],
             "--json": ["short", "off"], "--definitions": ["repart.d", "none:repart.d"], "--sector-size": ["512", "4096"],
@@ -86,48 +82,45 @@ def options(folder, text, faults):
                 continue
             status, _, err = plan(folder, [f"{option}=yes"], [])
             if status != 2 or not re.search("no such option|not an option of this command", err):
-                faults.append(f"{option}: {word}, but status {status}: {err!r}")
+                wrong(f"{option}: {word}, but status {status}: {err!r}")
     for option, values in good.items():
         for value in values:
-            status, out, err = plan(folder, [f"{option}={value}"], [])
-            if status == 2:
-                faults.append(f"{option}={value}: {err!r}")
+            answer = plan(folder, [f"{option}={value}"], [])
+            if answer.status == 2:
+                wrong(f"{option}={value}: {answer.err!r}")
     for option, values in bad.items():
         for value in values:
-            status, out, err = plan(folder, [f"{option}={value}"], [])
-            if status != 2:
-                faults.append(f"{option}={value} is read")
+            expect(f"{option}={value}", plan(folder, [f"{option}={value}"], []).status, 2)
 
 
-def main():
-    faults = []
-    text = (TOP / "docs" / "migrate.md").read_text()
-    with tempfile.TemporaryDirectory() as folder:
-        for name, size in (("image", 4 << 30), ("source", 10001)):
-            with open(os.path.join(folder, name), "wb") as file:
-                file.truncate(size)
-        keys(folder, text, faults)
-        options(folder, text, faults)
-        for line, wanted in (("Weight=1x", "BadValue Weight"), ("word", "BadLine"), ("Label=%x", "BadValue Label"), ("Label=", None),
-                             ("SizeMinBytes=1.5M", "BadValue SizeMinBytes"), ("SizeMinBytes=1P", "BadValue SizeMinBytes"),
-                             ("UUID=null", "Unsupported UUID")):
-            status, out, _ = plan(folder, [], [line])
-            if (wanted and out != f"error 3 x.conf:3 {wanted}\n") or (not wanted and status != 0):
-                faults.append(f"{line}: {out!r}")
-        if shutil.which("systemd-repart"):
-            both = pathlib.Path(folder, "both")
-            both.mkdir()
-            for name, lines in (("10-esp", "Type=esp\nSizeMinBytes=100M\nSizeMaxBytes=100M\n"),
-                                ("20-home", "Type=home\nWeight=2000\nNoAuto=yes\n"), ("30-srv", "Type=srv\nLabel=data\nReadOnly=yes\n"),
-                                ("40-swap", "Type=swap\nSizeMinBytes=90G\nPriority=1\n")):
-                (both / f"{name}.conf").write_text("[Partition]\n" + lines)
-            answer = subprocess.run([TOP / "tools" / "try-migrate", "--size=4G", both], capture_output=True, text=True)
-            if answer.returncode != 0:
-                faults.append(f"try-migrate: status {answer.returncode}: {answer.stdout}{answer.stderr}")
-    for fault in faults:
-        print(f"check-migrate: {fault}", file=sys.stderr)
-    return 1 if faults else 0
+def values(folder):
+    """What is said there of values."""
+    for line, wanted in (("Weight=1x", "BadValue Weight"), ("word", "BadLine"), ("Label=%x", "BadValue Label"), ("Label=", None),
+                         ("SizeMinBytes=1.5M", "BadValue SizeMinBytes"), ("SizeMinBytes=1P", "BadValue SizeMinBytes"),
+                         ("UUID=null", "Unsupported UUID")):
+        status, out, _ = plan(folder, [], [line])
+        if (wanted and out != f"error 3 x.conf:3 {wanted}\n") or (not wanted and status != 0):
+            wrong(f"{line}: {out!r}")
 
 
-if __name__ == "__main__":
-    sys.exit(main())
+def both(folder):
+    """tools/try-migrate finds nothing that differs."""
+    wish = definitions.write(folder / "both", {
+        "10-esp.conf": "Type=esp\nSizeMinBytes=100M\nSizeMaxBytes=100M\n", "20-home.conf": "Type=home\nWeight=2000\nNoAuto=yes\n",
+        "30-srv.conf": "Type=srv\nLabel=data\nReadOnly=yes\n", "40-swap.conf": "Type=swap\nSizeMinBytes=90G\nPriority=1\n"})
+    answer = asked(sys.executable, TOP / "tools" / "try-migrate", "--size=4G", wish)
+    if answer.status:
+        wrong(f"try-migrate: {answer}")
+
+
+said = (TOP / "docs" / "migrate.md").read_text(encoding="utf-8")
+with tempfile.TemporaryDirectory() as name:
+    top = pathlib.Path(name)
+    sparse(top / "image", 4 << 30)
+    sparse(top / "source", 10001)
+    keys(top, said)
+    options(top, said)
+    values(top)
+    if has("systemd-repart", "tools/try-migrate isn't tried"):
+        both(top)
+end()

@@ -1,26 +1,22 @@
 #!/usr/bin/env python3
-"""Reads random image policies with `repart policy` and `repart compare`, and by a second reader, and compares the answers.
+"""Random image policies are read and compared as a second reader does it, and read as systemd-analyze reads them.
 
-usage: tools/check-policies [--seed N] [--policies N] [--beside SYSTEMD-ANALYZE]
+    tests/policies.py [COUNT [SEED]]
 
-The second reader below is written from docs/FORMATS.md, and tries all that may be found of each designator. The texts are the
-same for the same seed: good ones, and ones with unknown names, entries without an equals sign and repeated entries. Ends with 1
-where an answer differs.
+The second reader below is written from docs/FORMATS.md, and tries all that may be found of each designator. The texts are the same for
+the same seed: good ones, and ones with unknown names, entries without an equals sign and repeated entries. Where systemd-analyze has the
+command image-policy, which came with version 254, what `repart policy` says of each text is compared with its table; they may differ
+where one of EXPLAINED says why.
 
-With --beside, what `repart policy` says of each text is compared with the table of `systemd-analyze image-policy` in its place.
-Ends with 77 where that program is missing or has no such command (it came with version 254), and with 1 where an answer differs
-and none of EXPLAINED says why.
+Needs: for the last part systemd-analyze of version 254 or later
 """
-import argparse
 import collections
-import pathlib
 import random
 import shutil
-import subprocess
 import sys
 
-TOP = pathlib.Path(__file__).resolve().parent.parent
-REPART = TOP / "crates" / "repart" / "out" / "repart"
+from lib.program import ALL, asked, end, expect, run, wrong
+
 DESIGNATORS = ["root", "usr", "home", "srv", "esp", "xbootldr", "swap", "root-verity", "root-verity-sig", "usr-verity",
                "usr-verity-sig", "tmp", "var"]
 NAMES = ["verity", "signed", "encrypted", "unprotected", "unused", "absent", "read-only-on", "read-only-off", "growfs-on", "growfs-off"]
@@ -159,38 +155,30 @@ def is_of_unlisted_data(policy, name, said):
 EXPLAINED = [is_of_unlisted_data]
 
 
-def compare_beside(analyze, texts):
-    """The number of answers that differ unexplained from those of systemd-analyze; none where it can't be asked."""
-    assert table_of(EXAMPLE) == {name: written(flags_of(read("swap=encrypted:usr=read-only-on+verity:root=encrypted"), name))
-                                 for name in DESIGNATORS}
+def compare_beside(texts):
+    """Compares the flags of each text's designators with what systemd-analyze tells."""
+    expect("the table of the manual's example", table_of(EXAMPLE),
+           {name: written(flags_of(read("swap=encrypted:usr=read-only-on+verity:root=encrypted"), name)) for name in DESIGNATORS})
 
-    def answer(*words):
-        return subprocess.run(words, capture_output=True, text=True, timeout=20)
+    def theirs_of(text):
+        return asked("systemd-analyze", "--no-pager", "image-policy", text)
 
-    if not shutil.which(analyze) or not table_of(answer(analyze, "--no-pager", "image-policy", "-").stdout):
-        return None
-    counts = collections.Counter()
+    if not shutil.which("systemd-analyze") or not table_of(theirs_of("-").out):
+        print("without systemd-analyze of version 254 or later (Debian package systemd): policies aren't read by it")
+        return
     for text in texts:
-        theirs = answer(analyze, "--no-pager", "image-policy", text)
-        ours = answer(REPART, "policy", f"--policy={text}")
-        if theirs.returncode or ours.returncode:
-            same = bool(theirs.returncode) and ours.returncode == 6
-            counts["refused by both" if same else "refused by one"] += 1
-            if not same:
-                print(f"check-policies: {text!r}: {ours.stdout!r} beside {theirs.stderr!r}", file=sys.stderr)
+        theirs, ours = theirs_of(text), run("policy", f"--policy={text}")
+        if theirs.status or ours.status:
+            if not theirs.status or ours.status != 6:
+                wrong(f"{text!r}: {ours} beside {theirs}")
+            counts["refused by systemd-analyze too"] += 1
             continue
-        policy, said = read(text), table_of(theirs.stdout)
-        for name, flags in (line.split(" ") for line in ours.stdout.splitlines()[1:]):
-            if said.get(name) == flags:
-                counts["same"] += 1
-            elif why := next((rule.__name__ for rule in EXPLAINED if rule(policy, name, said.get(name))), None):
-                counts[why] += 1
-            else:
-                counts["differs"] += 1
-                print(f"check-policies: {text!r}: {name} {flags} beside {said.get(name)}", file=sys.stderr)
-    for what, count in sorted(counts.items()):
-        print(f"{what}: {count}")
-    return counts["refused by one"] + counts["differs"]
+        policy, said = read(text), table_of(theirs.out)
+        for name, flags in (line.split(" ") for line in ours.out.splitlines()[1:]):
+            why = next((rule.__name__ for rule in EXPLAINED if rule(policy, name, said.get(name))), None)
+            if said.get(name) != flags and not why:
+                wrong(f"{text!r}: {name} {flags} beside {said.get(name)}")
+            counts["read by systemd-analyze alike" if said.get(name) == flags else why] += 1
 
 
 def random_flags(rng):
@@ -208,37 +196,20 @@ def random_policy(rng):
     return ":".join(entries)
 
 
-def main():
-    parser = argparse.ArgumentParser()
-    parser.add_argument("--seed", type=int, default=1)
-    parser.add_argument("--policies", type=int, default=500)
-    parser.add_argument("--beside")
-    given = parser.parse_args()
-    rng = random.Random(given.seed)
-    # builds the program, where it isn't there or is older than its sources
-    subprocess.run([TOP / "tools" / "repart", "--version"], stdout=subprocess.DEVNULL, check=True)
-    if given.beside:
-        failed = compare_beside(given.beside, [random_policy(rng) for _ in range(given.policies)])
-        return 77 if failed is None else 1 if failed else 0
-    statuses, failed = collections.Counter(), 0
-    for _ in range(given.policies):
-        text, against = random_policy(rng), random_policy(rng)
-        for words, ask in ((["policy", f"--policy={text}"], lambda: answer_policy(text)),
-                           (["compare", f"--policy={text}", f"--against={against}"], lambda: answer_compare(text, against))):
-            try:
-                wanted = ask()
-            except Fault as fault:
-                wanted = 6, "error 6 policy {} {}\n".format(*fault.args)
-            answer = subprocess.run([REPART, *words], capture_output=True, text=True, timeout=20)
-            statuses[words[0], answer.returncode] += 1
-            if (answer.returncode, answer.stdout) != wanted:
-                failed += 1
-                print(f"check-policies: {words}: {answer.returncode} {answer.stdout!r} in place of {wanted}", file=sys.stderr)
-    for (command, status), count in sorted(statuses.items()):
-        print(f"{command} status {status}: {count}")
-    print(f"{2 * given.policies} answers, {failed} failed")
-    return 1 if failed else 0
-
-
-if __name__ == "__main__":
-    sys.exit(main())
+COUNT = int(sys.argv[1]) if len(sys.argv) > 1 else 5000 if ALL else 500
+rng, counts = random.Random(int(sys.argv[2]) if len(sys.argv) > 2 else 1), collections.Counter()
+for _ in range(COUNT):
+    text, against = random_policy(rng), random_policy(rng)
+    for words, ask in ((["policy", f"--policy={text}"], lambda: answer_policy(text)),
+                       (["compare", f"--policy={text}", f"--against={against}"], lambda: answer_compare(text, against))):
+        try:
+            wanted = ask()
+        except Fault as fault:
+            wanted = 6, "error 6 policy {} {}\n".format(*fault.args)
+        answer = run(*words)
+        counts[f"{words[0]} status {answer.status}"] += 1
+        expect(words, answer[:2], wanted)
+compare_beside([random_policy(rng) for _ in range(COUNT)])
+for what, many in sorted(counts.items()):
+    print(f"{many:6} {what}")
+end()

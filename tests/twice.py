@@ -1,7 +1,7 @@
 #!/usr/bin/env python3
-"""Applies random definitions to random images, twice, and looks at what each run leaves.
+"""Random definitions that are applied to random images keep what is there and do what was planned, and a second run does nothing.
 
-    tools/twice [--only=NUMBER] [COUNT [SEED]]
+    tests/twice.py [COUNT [SEED]]
 
 An image of some MiB has no table, or one with random partitions, a damaged copy, a disk that is longer than its table, a
 protective MBR of another table. Definitions ask for random sizes, weights, paddings, priorities, labels, identifiers,
@@ -14,54 +14,29 @@ sources and hash trees. Of each case is checked:
   lies in no new partition and isn't the table's is as before;
 - the second run prints `steps 0 writes 0` and changes no byte, where the first dropped no definition; with another seed too.
 
-The program is $REPART, or that of this repository. Ends with 0, with 1 at the first case that differs, whose files are kept, or
-with 77 where the program has no command apply. What came how often is printed.
+With --all there are 5,000 cases. The test ends at the first case that differs, whose files are kept where TMPDIR is.
 """
-import argparse
 import collections
-import importlib.machinery
-import importlib.util
-import os
 import pathlib
 import random
 import re
 import shutil
-import subprocess
 import sys
 import tempfile
 
-TOP = pathlib.Path(__file__).resolve().parent.parent
-REPART = os.environ.get("REPART", TOP / "tools" / "repart")
+from lib import gpt
+from lib.definitions import write
+from lib.gpt import rows_of
+from lib.images import random_bytes, random_guid
+from lib.program import ALL, end, run, wrong
+
 MIB = 1 << 20
 NONE = "00000000-0000-0000-0000-000000000000"
-KINDS = {
-    "linux-generic": "0fc63daf-8483-4772-8e79-3d69d8477de4", "home": "933ac7e1-2eb4-4f13-b844-0e14e2aef915",
-    "swap": "0657fd6d-a4ab-43c4-84e5-0933c84b4f4f", "esp": "c12a7328-f81f-11d2-ba4b-00a0c93ec93b",
-    "root-x86-64": "4f68bce3-e8cd-4db1-96e7-fbcaf984b709", "root-x86-64-verity": "2c7357ed-ebd2-46d9-aec1-23d437ec2bf5",
-    "21686148-6449-6e6f-744e-656564454649": "21686148-6449-6e6f-744e-656564454649",
-}
-ROW = re.compile(r'(\d+) (?:(new|changed|same) (\S+) )?(\S+) start (\d+) size (\d+) id (\S+) attrs ([0-9a-f]{16}) name "(.*)"')
-Row = collections.namedtuple("Row", "slot change file type start size id attrs name")
-
-
-def module(path):
-    """A tool of this folder as a module."""
-    sys.dont_write_bytecode = True
-    loader = importlib.machinery.SourceFileLoader(path.name.replace("-", "_"), str(path))
-    made = importlib.util.module_from_spec(importlib.util.spec_from_loader(loader.name, loader))
-    loader.exec_module(made)
-    return made
-
-
-IMAGES = module(TOP / "tools" / "make-image")
+KINDS = ["linux-generic", "home", "swap", "esp", "root-x86-64", "root-x86-64-verity", "21686148-6449-6e6f-744e-656564454649"]
 
 
 class Differs(Exception):
     """What is not as it has to be."""
-
-
-def guid(dice):
-    return "%08x-%04x-4%03x-8%03x-%012x" % tuple(dice.getrandbits(bits) for bits in (32, 16, 12, 12, 48))
 
 
 def random_rows(dice, first, last, unit, entries):
@@ -83,7 +58,7 @@ def random_rows(dice, first, last, unit, entries):
     rows = {}
     for slot, (start, end) in zip(slots, spans):
         attributes = dice.choice([0, 0, 1 << 60, 1 << 63, 1 << 59, dice.getrandbits(64)])
-        rows[slot] = IMAGES.entry(KINDS[dice.choice(list(KINDS))], dice.choice([guid(dice), guid(dice), NONE]), start, end, attributes,
+        rows[slot] = gpt.entry(dice.choice(KINDS), dice.choice([random_guid(dice), random_guid(dice), NONE]), start, end, attributes,
                                   dice.choice(["", "a", "name", "ü" * 36]))
     return rows
 
@@ -95,20 +70,20 @@ def random_image(dice, path):
     sectors = dice.randint(5 * MIB // 4, 5 * MIB) // 4096 * 8 // unit + (0 if sector == 4096 else dice.choice([0, 0, dice.randint(0, 7)]))
     if dice.random() < .3:
         with open(path, "wb") as file:
-            file.write(dice.randbytes(dice.choice([0, 4096])).ljust(sectors * sector, b"\0"))
+            file.write(random_bytes(dice, dice.choice([0, 4096])).ljust(sectors * sector, b"\0"))
         return sector, "blank"
     entries = dice.choice([128, 128, 128, 256, 1024])
-    most = sectors - 2 - IMAGES.array_sectors(entries, sector)
-    least = 2 + IMAGES.array_sectors(entries, sector)
+    most = sectors - 2 - gpt.array_sectors(entries, sector)
+    least = 2 + gpt.array_sectors(entries, sector)
     first = dice.choice([least, 2048 // unit, dice.randint(least, 3000 // unit)])
     first, last = max(first, least), dice.choice([most, most, most - dice.randint(0, 200)])
     rows = random_rows(dice, first, last, unit, entries) if dice.random() < .93 else {}
-    disk = dice.choice([guid(dice), guid(dice), NONE])
-    made = bytearray(IMAGES.image(sectors, first, last, rows, disk=disk, sector=sector, entries=entries))
+    disk = dice.choice([random_guid(dice), random_guid(dice), NONE])
+    made = bytearray(gpt.image(sectors, first, last, rows, disk=disk, sector=sector, entries=entries))
     # Old partitions, and what lies beside them, hold bytes that are found again.
     for _ in range(dice.randint(3, 40)):
         at = dice.randrange(least * sector, (most + 1) * sector - 600)
-        made[at:at + 600] = dice.randbytes(600)
+        made[at:at + 600] = random_bytes(dice, 600)
     word = "table"
     damage = dice.random()
     places = {"primary": sector, "backup": (sectors - 1) * sector, "arrays": 2 * sector, "end": (most + 1) * sector}
@@ -126,7 +101,7 @@ def random_image(dice, path):
         made[places["backup"] + 3] ^= 1
         word = "both damaged"
     if dice.random() < .1:
-        made[446:512] = dice.choice([bytes(66), dice.randbytes(66)])
+        made[446:512] = dice.choice([bytes(66), random_bytes(dice, 66)])
         word += ", another MBR"
     if dice.random() < .3:
         made += bytes(dice.randint(1, 2 * MIB) // sector * sector)
@@ -149,7 +124,7 @@ def random_definition(dice, kind):
             (.5, "Weight", dice.choice([0, 1, 333, 1000, 2000, 999999])), (.2, "PaddingWeight", dice.choice([1, 100, 1000])),
             (.2, "PaddingMinBytes", dice.choice(["4K", "64K", random_size(dice)])),
             (.15, "PaddingMaxBytes", dice.choice(["1M", random_size(dice)])),
-            (.4, "Priority", dice.choice([-1, 0, 1, 2, 5])), (.2, "Label", dice.choice(["x", "a b", "é" * 36])), (.15, "UUID", guid(dice)),
+            (.4, "Priority", dice.choice([-1, 0, 1, 2, 5])), (.2, "Label", dice.choice(["x", "a b", "é" * 36])), (.15, "UUID", random_guid(dice)),
             (.2, "NoAuto", dice.choice(switches)), (.2, "ReadOnly", dice.choice(switches)), (.2, "GrowFileSystem", dice.choice(switches)),
             (.2, "CopyBlocks", f"source-{dice.randint(1, 3)}")):
         if dice.random() < chance:
@@ -159,7 +134,6 @@ def random_definition(dice, kind):
 
 def random_definitions(dice, folder, there):
     """Writes a folder of definitions, more often than not of types that are there."""
-    folder.mkdir()
     kinds = [kind for kind in KINDS if "verity" not in kind]
     made = [random_definition(dice, dice.choice(there if there and dice.random() < .7 else kinds))
             for _ in range(dice.choice([0, 1, 1, 2, 2, 3, 4, 6]))]
@@ -168,19 +142,12 @@ def random_definitions(dice, folder, there):
                      *dice.choice([[], ["SizeMinBytes=400K"], ["Priority=3"]])])
         made.append(["Type=root-verity", "Verity=hash", "VerityMatchKey=m"])
     dice.shuffle(made)
-    for place, lines in enumerate(made):
-        (folder / f"{place}.conf").write_text("\n".join(["[Partition]", *lines]) + "\n")
+    write(folder, {f"{place}.conf": "\n".join(lines) + "\n" for place, lines in enumerate(made)})
 
 
-def run(words, folder):
+def answer(words, folder):
     """The status of the program and what it prints."""
-    answer = subprocess.run([REPART, *words], cwd=folder, stdout=subprocess.PIPE, text=True)
-    return answer.returncode, answer.stdout
-
-
-def rows_of(text):
-    found = [ROW.fullmatch(line) for line in text.splitlines()]
-    return {int(one[1]): Row(int(one[1]), one[2], one[3], one[4], int(one[5]), int(one[6]), one[7], one[8], one[9]) for one in found if one}
+    return tuple(run(*words, cwd=folder)[:2])
 
 
 def must(holds, why):
@@ -231,23 +198,23 @@ def one_case(dice, folder, seen):
     image = folder / "image"
     sector, word = random_image(dice, image)
     for number in (1, 2, 3):
-        (folder / f"source-{number}").write_bytes(dice.randbytes(dice.choice([1, 4096, 5000, 200000, 600000])))
+        (folder / f"source-{number}").write_bytes(random_bytes(dice, dice.choice([1, 4096, 5000, 200000, 600000])))
     before = image.read_bytes()
     empty = dice.choice(["allow"] * 5 + ["refuse"] * 2 + ["require"])
     sectors = [f"--sector-size={sector}"] if sector != 512 else []
-    old = rows_of(run(["show", *sectors, "image"], folder)[1])
+    old = rows_of(answer(["show", *sectors, "image"], folder)[1])
     random_definitions(dice, folder / "repart.d", [row.type for row in old.values()])
     options = [f"--empty={empty}", "--definitions=repart.d", *sectors]
     if dice.random() < .3:
         options.append(f"--size={len(before) + dice.randint(-MIB, MIB)}")
-    seed, other = (f"--seed={guid(dice)}" for _ in range(2))
+    seed, other = (f"--seed={random_guid(dice)}" for _ in range(2))
     (folder / "words").write_text(" ".join(["apply", *options, seed, "image"]) + "\n")
 
-    planned = run(["plan", *options, seed, "image"], folder)
+    planned = answer(["plan", *options, seed, "image"], folder)
     must(image.read_bytes() == before, "plan wrote")
-    status, text = run(["apply", *options, seed, "image"], folder)
+    status, text = answer(["apply", *options, seed, "image"], folder)
     after = image.read_bytes()
-    must(planned == (status, text.removesuffix("applied\n")), f"planned {planned}, applied {(status, text)}")
+    must(planned == (status, re.sub("applied\n$", "", text)), f"planned {planned}, applied {(status, text)}")
     if status != 0:
         must(status in (3, 4, 5), f"status {status}")
         must(after == before, f"status {status}, and the image is another")
@@ -257,13 +224,13 @@ def one_case(dice, folder, seen):
     dropped, still = "\ndropped " in text, "\nsteps 0 writes 0\n" in text
     must(not still or after == before, "no steps, and the image is another")
     goal = kept(old, before, after, text, folder)
-    status, shown = run(["show", *sectors, "image"], folder)
+    status, shown = answer(["show", *sectors, "image"], folder)
     must(status == 0, f"show: {status} {shown}")
     must([row[3:] for row in rows_of(shown).values()] == [row[3:] for row in goal.values()], f"planned {text}, shows {shown}")
     must("table primary " in shown and re.search(r"^copies primary=same backup=same mbr=(same|foreign)$", shown, re.M), f"shows {shown}")
 
     for which in (seed, other) if dice.random() < .3 else (seed,):
-        status, text = run(["apply", *options, which, "image"], folder)
+        status, text = answer(["apply", *options, which, "image"], folder)
         if empty == "require":
             must((status, text) == (4, "error 4 NotEmpty\n"), f"second run: {status} {text}")
         elif not dropped:
@@ -284,28 +251,17 @@ def one_case(dice, folder, seen):
     seen["sectors of 4,096 bytes"] += sector == 4096
 
 
-def main():
-    parser = argparse.ArgumentParser(description=__doc__, formatter_class=argparse.RawDescriptionHelpFormatter)
-    parser.add_argument("count", nargs="?", type=int, default=2000)
-    parser.add_argument("seed", nargs="?", type=int, default=1)
-    parser.add_argument("--only", type=int, help="the number of a case, which alone is tried")
-    words = parser.parse_args()
-    if not re.search("^repart apply ", subprocess.run([REPART, "--help"], stdout=subprocess.PIPE, text=True).stdout, re.M):
-        print("twice: skipped: this repart has no command apply", file=sys.stderr)
-        return 77
-    seen = collections.Counter()
-    for number in range(words.count) if words.only is None else [words.only]:
-        folder = pathlib.Path(tempfile.mkdtemp())
-        try:
-            one_case(random.Random(f"{words.seed} {number}"), folder, seen)
-        except Differs as differs:
-            print(f"twice: case {number} of seed {words.seed}, kept in {folder}: {differs}", file=sys.stderr)
-            return 1
-        shutil.rmtree(folder)
-    for word, many in seen.most_common():
-        print(f"{many:6} {word}")
-    return 0
-
-
-if __name__ == "__main__":
-    sys.exit(main())
+COUNT = int(sys.argv[1]) if len(sys.argv) > 1 else 5000 if ALL else 400
+SEED = int(sys.argv[2]) if len(sys.argv) > 2 else 1
+seen = collections.Counter()
+for number in range(COUNT):
+    folder = pathlib.Path(tempfile.mkdtemp())
+    try:
+        one_case(random.Random(f"{SEED} {number}"), folder, seen)
+    except Differs as differs:
+        wrong(f"case {number} of seed {SEED}, kept in {folder}: {differs}")
+        break
+    shutil.rmtree(folder)
+for word, many in seen.most_common():
+    print(f"{many:6} {word}")
+end()

@@ -19,8 +19,10 @@ faults = []
 
 
 def chosen():
-    """The program that is tested: $REPART, or the one that is built here."""
-    return os.path.abspath(os.environ.get("REPART") or TOP / "crates" / "repart" / "out" / "repart")
+    """The program that is tested: $REPART, or the one that tools/program names."""
+    if os.environ.get("REPART"):
+        return os.path.abspath(os.environ["REPART"])
+    return subprocess.run([TOP / "tools" / "program"], stdout=subprocess.PIPE).stdout.decode().strip()
 
 
 def prepare():
