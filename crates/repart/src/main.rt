@@ -1,48 +1,59 @@
 //! `repart`: shows, plans and changes the partition table of a raw disk image, and judges it by an image policy.
 #![tactic(auto)]
 
+mod handles;
+mod image;
+mod lock;
+mod sectors;
+
+use handles::standard_handles;
+use image::{image_of, path_of};
+use lock::{Lock, lock_of};
 use rp_cli::run;
 use rp_disk::FileDisk;
 use rp_io::{HostFolders, HostSink, HostSources};
-use rp_outcome::{MEMORY, WORDS, finish};
+use rp_outcome::{MEMORY, SINK, WORDS, finish};
 use rp_progress::{Meter, Metered};
-use rp_words::{Command, has_image, help_text, hint_of, read_line};
+use rp_words::{Command, help_text, hint_of, read_line};
+use sectors::give_sector_size;
+use std::env;
+use std::fs::File;
 use std::io::{self, ErrorKind, IsTerminal};
-use std::os::unix::fs::MetadataExt;
 use std::process::ExitCode;
-use std::{env, fs};
 
 const VERSION: &str = "repart 1.0\n";
 
-// The bits of a file's mode that tell its type, and those of a block device (inode(7)).
-const TYPE_BITS: u32 = 0o170_000;
-
-const BLOCK_DEVICE: u32 = 0o060_000;
-
 fn main(rt: HostRuntime) -> ExitCode {
-    let words = match read_words(&rt) {
+    match standard_handles(&rt) {
+        Ok(_kept) => ExitCode::from(answer(&rt)),
+        Err(_) => ExitCode::from(SINK),
+    }
+}
+
+// Does what the arguments ask for, and gives the status.
+fn answer(rt: &HostRuntime) -> u8 {
+    let mut words = match read_words(rt) {
         Ok(words) => words,
         // Words that aren't all text are no canonical line, as no words are.
         Err(error) if error.kind() == ErrorKind::InvalidData => {
-            let status = run_words(&rt, &[]);
+            let status = run_words(rt, &mut Vec::new(rt.alloc()));
             let _ = eprintln!(rt; "repart: a word isn't UTF-8; see repart --help");
-            return ExitCode::from(status);
+            return status;
         }
-        Err(_) => return ExitCode::from(MEMORY),
+        Err(_) => return MEMORY,
     };
-    let words = words.as_slice();
-    if let [word] = words {
+    if let [word] = words.as_slice() {
         match word.as_str() {
-            "--help" => return ExitCode::from(print_help(&rt)),
-            "--version" => return ExitCode::from(finish(&mut HostSink::new(&rt), VERSION)),
+            "--help" => return print_help(rt),
+            "--version" => return finish(&mut HostSink::new(rt), VERSION),
             _ => (),
         }
     }
-    let status = run_words(&rt, words);
+    let status = run_words(rt, &mut words);
     if status == WORDS {
-        say_wrong(&rt, words);
+        say_wrong(rt, words.as_slice());
     }
-    ExitCode::from(status)
+    status
 }
 
 fn print_help(rt: &HostRuntime) -> u8 {
@@ -52,16 +63,16 @@ fn print_help(rt: &HostRuntime) -> u8 {
     }
 }
 
-// Does what the words ask for. The image is opened for reading alone, but by the commands that change it. How far long
-// work is shows on standard error, where that is a terminal.
-fn run_words(rt: &HostRuntime, words: &[String]) -> u8 {
-    let path = image_of(rt, words);
-    let disk = match read_line(words) {
-        Ok(line) if matches!(line.command, Command::Apply | Command::Make) => {
-            FileDisk::open(rt, path)
-        }
-        _ => FileDisk::open_to_read(rt, path),
-    };
+// Does what the words ask for. How far long work is shows on standard error, where that is a terminal.
+fn run_words(rt: &HostRuntime, words: &mut Vec<String>) -> u8 {
+    let image = image_of(rt, words.as_slice());
+    if give_sector_size(rt, words, image).is_err() {
+        return MEMORY;
+    }
+    let words = words.as_slice();
+    let path = path_of(words, image);
+    let lock = lock_for(rt, words, path);
+    let disk = open(rt, path, &lock);
     let meter = Meter::new(rt, rt.stderr().is_terminal());
     let mut disk = Metered::new(disk, &meter);
     let mut folders = HostFolders::new(rt);
@@ -79,16 +90,20 @@ fn run_words(rt: &HostRuntime, words: &[String]) -> u8 {
     status
 }
 
-// The path of the image: the last word of a command that has one, where it isn't the path of what is neither a file nor a
-// block device. A folder can be opened for reading too, and opening a pipe may wait without end; no path stands for them.
-fn image_of<'a>(rt: &HostRuntime, words: &'a [String]) -> &'a str {
-    let path = match words {
-        [.., word] if has_image(words) => word.as_str(),
-        _ => "",
-    };
-    match fs::metadata(rt, path) {
-        Ok(found) if found.is_file() || found.mode() & TYPE_BITS == BLOCK_DEVICE => path,
-        _ => "",
+// The lock of the image that is to be held to the end: the commands that change it want it.
+fn lock_for(rt: &HostRuntime, words: &[String], path: &str) -> Lock {
+    match read_line(words) {
+        Ok(line) if matches!(line.command, Command::Apply | Command::Make) => lock_of(rt, path),
+        _ => Lock::Unwanted,
+    }
+}
+
+// The image, opened for reading alone where no lock is wanted, and not at all where that was refused.
+fn open(rt: &HostRuntime, path: &str, lock: &Lock) -> FileDisk<File> {
+    match lock {
+        Lock::Unwanted => FileDisk::open_to_read(rt, path),
+        Lock::Held(_) => FileDisk::open(rt, path),
+        Lock::Refused => FileDisk::open(rt, ""),
     }
 }
 
