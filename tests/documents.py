@@ -125,7 +125,7 @@ class Names:
     """What is declared: of each crate, and of all; and other words that documents may have in code."""
 
     def __init__(self):
-        self.of, self.words = {}, set(OUTSIDE)
+        self.of, self.words = {}, OUTSIDE | PARTS
         for crate, used in crates().items():
             folder = TOP / "crates" / crate
             own = self.of[crate] = set()
