@@ -2,9 +2,10 @@
 """Documents say what is so: each command that one shows prints what stands below it, and each file, crate, function and lemma is there.
 
 Commands stand behind `$ ` in blocks of `console`, or in literal blocks of manuals; one that shows nothing is run only before one of
-its block that shows something. Documents are kept to their lengths, manuals parse, ARCHITECTURE.md has the floors of crates.txt, and
+its block that shows something. A literal block that begins with `# NAME.conf` is a file in repart.d. Documents are kept to their lengths, manuals parse, ARCHITECTURE.md has the floors of crates.txt, and
 each definition has its sentence.
 """
+import functools
 import os
 import pathlib
 import re
@@ -18,7 +19,7 @@ from lib.program import REPART, TOP, asked, end, expect, has, wrong
 MARKDOWN = [TOP / "README.md", TOP / "CONTRIBUTING.md", TOP / "CHANGELOG.md", *sorted((TOP / "docs").glob("*.md")),
             *sorted((TOP / "examples").glob("*/README.md")), TOP / "tests" / "README.md"]
 MANUALS = sorted((TOP / "docs").glob("*.[1-8]"))
-WORDS = {"README.md": 1300, "CONTRIBUTING.md": 600}
+WORDS = {"README.md": 1300, "CONTRIBUTING.md": 600, "docs/ARCHITECTURE.md": 2500, "docs/PROVED.md": 3500, "docs/DECISIONS.md": 4000}
 # What stands at the top of the repository, but for what is made there.
 PARTS = {path.name for path in TOP.iterdir()} - {"out"}
 # Names of Rust's own that documents speak of.
@@ -59,25 +60,40 @@ def copy_to(folder):
     (folder / "tools" / "repart").symlink_to(REPART)
 
 
+def is_file(folder, block):
+    """Whether a block is a definition file, which is written then."""
+    named = re.match(r"# (\S+\.conf)\n", block)
+    if named:
+        (folder / "repart.d").mkdir(exist_ok=True)
+        (folder / "repart.d" / named[1]).write_text(block, encoding="utf-8")
+    return bool(named)
+
+
+def run_all(path, folder, programs):
+    """Runs what a document shows, block by block."""
+    environment = {**os.environ, "PATH": f"{programs}:{os.environ['PATH']}"}
+    for block in blocks_of(path):
+        if path in MANUALS and is_file(folder, block):
+            continue
+        for command, printed in shown(block):
+            answer = subprocess.run(["sh", "-c", command], cwd=folder, env=environment, stdin=subprocess.DEVNULL, stdout=subprocess.PIPE,
+                                    stderr=subprocess.PIPE)
+            if answer.stdout.decode() != printed:
+                wrong(f"{path.name}: {command}\nprinted\n{answer.stdout.decode()}{answer.stderr.decode()}in place of\n{printed}")
+
+
 def commands():
     for path in [*MARKDOWN, *MANUALS]:
-        blocks = [parts for parts in map(shown, blocks_of(path)) if parts]
-        if not blocks:
+        if not any(map(shown, blocks_of(path))):
             continue
         with tempfile.TemporaryDirectory() as name:
-            folder = pathlib.Path(name) / "here"
+            folder, programs = pathlib.Path(name) / "here", pathlib.Path(name) / "bin"
             folder.mkdir()
-            if path in MARKDOWN:
-                copy_to(folder)
-            programs = pathlib.Path(name) / "bin"
             programs.mkdir()
             (programs / "repart").symlink_to(REPART)
-            environment = {**os.environ, "PATH": f"{programs}:{os.environ['PATH']}"}
-            for command, printed in [part for parts in blocks for part in parts]:
-                answer = subprocess.run(["sh", "-c", command], cwd=folder, env=environment, stdin=subprocess.DEVNULL, stdout=subprocess.PIPE,
-                                        stderr=subprocess.PIPE)
-                if answer.stdout.decode() != printed:
-                    wrong(f"{path.name}: {command}\nprinted\n{answer.stdout.decode()}{answer.stderr.decode()}in place of\n{printed}")
+            if path in MARKDOWN:
+                copy_to(folder)
+            run_all(path, folder, programs)
 
 
 def options():
@@ -101,6 +117,7 @@ def options():
 
 # Names.
 
+@functools.cache
 def crates():
     """The crates of crates.txt, with what each stands on."""
     return {name: used.split() for name, used in re.findall(r"^([a-z_0-9]+)[^:#\n]*:(.*)$", read(TOP / "crates.txt"), re.M)}
@@ -191,9 +208,13 @@ def named():
         for span in re.findall(r"`([^`\n]+)`", text):
             for fault in faults_of(span, names):
                 wrong(f"{path.name}: {span}: {fault}")
-        for crate in re.findall(r"(?<![\w`/])rp_[a-z0-9_]+", re.sub(r"`[^`\n]*`", "", text)):
+        plain = re.sub(r"`[^`\n]*`", "", text)
+        for crate in re.findall(r"(?<![\w/])rp_[a-z0-9_]+", plain):
             if crate not in names.of:
                 wrong(f"{path.name}: there is no crate {crate}")
+        for word in re.findall(r"(?<![\w./(-])(?:[\w.-]+/)+[\w-][\w.-]*[\w-]", plain):
+            if is_path(word) and not path_of(word).exists():
+                wrong(f"{path.name}: there is no file {word}")
     for path in MANUALS:
         for target in re.findall(r"^\.Pa (\S+)", read(path), re.M):
             if target.split("/")[0] in PARTS and not (TOP / target).exists():
@@ -216,17 +237,23 @@ def lengths():
         count = len(read(TOP / path).split())
         if count > most:
             wrong(f"{path} has {count} words, more than {most}")
+    wide = [line for line in read(TOP / "docs" / "PROVED.md").splitlines() if len(line) > 100]
+    if wide:
+        wrong(f"PROVED.md has lines of more than 100 columns: {wide[0]}")
 
 
 def manuals():
+    """Manuals parse, and name the program at their foot and no other system."""
     for page in MANUALS:
-        if shutil.which("mandoc"):
-            answer = asked("mandoc", "-T", "lint", "-W", "warning", page)
-        elif has("man", "manuals parse"):
-            answer = asked("man", "--warnings", "-l", page)
-        else:
-            return
-        expect(f"{page.name} parses", (answer.status, answer.err, answer.out if shutil.which("mandoc") else ""), (0, "", ""))
+        if has("mandoc", f"{page.name} parses"):
+            expect(f"{page.name} parses", asked("mandoc", "-T", "lint", "-W", "warning", page)[:2], (0, ""))
+            expect(f"the foot of {page.name}", asked("mandoc", page).out.split()[-1], "repart")
+        if shutil.which("man"):
+            printed = asked("man", "--warnings", "-l", page)
+            expect(f"{page.name} parses by man", (printed.status, printed.err), (0, ""))
+            expect(f"the foot of {page.name} by man", printed.out.split()[-1], "repart")
+            if "BSD" in printed.out:
+                wrong(f"{page.name} names another system")
 
 
 def made():
