@@ -232,6 +232,13 @@ def clauses():
             wrong(f"PROVED.md names no clause {name}")
 
 
+def version():
+    """CHANGELOG.md has the version that the program prints."""
+    number = asked(REPART, "--version").out.split()[-1]
+    if not re.search(rf"^## {re.escape(number)}$", read(TOP / "CHANGELOG.md"), re.M):
+        wrong(f"CHANGELOG.md has no heading {number}")
+
+
 def lengths():
     for path, most in WORDS.items():
         count = len(read(TOP / path).split())
@@ -265,6 +272,7 @@ commands()
 options()
 named()
 clauses()
+version()
 lengths()
 manuals()
 floors()
