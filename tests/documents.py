@@ -79,7 +79,7 @@ def run_all(path, folder, programs):
             answer = subprocess.run(["sh", "-c", command], cwd=folder, env=environment, stdin=subprocess.DEVNULL, stdout=subprocess.PIPE,
                                     stderr=subprocess.PIPE)
             if answer.stdout.decode() != printed:
-                wrong(f"{path.name}: {command}\nprinted\n{answer.stdout.decode()}{answer.stderr.decode()}in place of\n{printed}")
+                wrong(f"{path.relative_to(TOP)}: {command}\nprinted\n{answer.stdout.decode()}{answer.stderr.decode()}in place of\n{printed}")
 
 
 def commands():
@@ -109,10 +109,10 @@ def options():
             calls += re.findall(r"`(?:[^`\n]* )?(?:tools/)?repart ([a-z]+)((?: [^|;&`\n]*)?)`", text)
         for command, words in calls:
             if command not in known:
-                wrong(f"{path.name}: the program has no command {command}")
+                wrong(f"{path.relative_to(TOP)}: the program has no command {command}")
             for option in re.findall(r"(?<= )--[a-z-]+", words):
                 if option not in known.get(command, ()):
-                    wrong(f"{path.name}: {command} has no option {option}")
+                    wrong(f"{path.relative_to(TOP)}: {command} has no option {option}")
 
 
 # Names.
@@ -201,24 +201,24 @@ def named():
         text = re.sub(r"^```.*?^```$", "", read(path), flags=re.M | re.S)
         for target in re.findall(r"\]\(([^)#\s]+)(?:#[^)]*)?\)", text):
             if ":" not in target and not (path.parent / target).exists():
-                wrong(f"{path.name}: there is no file {target}")
+                wrong(f"{path.relative_to(TOP)}: there is no file {target}")
         for anchor in re.findall(r"\]\(#([^)\s]+)\)", text):
             if anchor not in {re.sub(r"[^\w -]", "", head.lower()).replace(" ", "-") for head in re.findall(r"^#+ (.*)$", text, re.M)}:
-                wrong(f"{path.name}: there is no section {anchor}")
+                wrong(f"{path.relative_to(TOP)}: there is no section {anchor}")
         for span in re.findall(r"`([^`\n]+)`", text):
             for fault in faults_of(span, names):
-                wrong(f"{path.name}: {span}: {fault}")
+                wrong(f"{path.relative_to(TOP)}: {span}: {fault}")
         plain = re.sub(r"`[^`\n]*`", "", text)
         for crate in re.findall(r"(?<![\w/])rp_[a-z0-9_]+", plain):
             if crate not in names.of:
-                wrong(f"{path.name}: there is no crate {crate}")
+                wrong(f"{path.relative_to(TOP)}: there is no crate {crate}")
         for word in re.findall(r"(?<![\w./(-])(?:[\w.-]+/)+[\w-][\w.-]*[\w-]", plain):
             if is_path(word) and not path_of(word).exists():
-                wrong(f"{path.name}: there is no file {word}")
+                wrong(f"{path.relative_to(TOP)}: there is no file {word}")
     for path in MANUALS:
         for target in re.findall(r"^\.Pa (\S+)", read(path), re.M):
             if target.split("/")[0] in PARTS and not (TOP / target).exists():
-                wrong(f"{path.name}: there is no file {target}")
+                wrong(f"{path.relative_to(TOP)}: there is no file {target}")
 
 
 # All else.
