@@ -50,12 +50,9 @@ def blocks_of(path):
 
 
 def copy_to(folder):
-    """The repository but for its crates, in which tools/repart is the program that is tested."""
-    for part in sorted(PARTS - {".git", ".ci", "crates", "release"}):
-        if (TOP / part).is_dir():
-            shutil.copytree(TOP / part, folder / part)
-        else:
-            shutil.copy(TOP / part, folder / part)
+    """What documents show commands of, with the program that is tested as tools/repart."""
+    for part in ("docs", "examples", "share", "tests", "tools"):
+        shutil.copytree(TOP / part, folder / part)
     (folder / "tools" / "repart").unlink()
     (folder / "tools" / "repart").symlink_to(REPART)
 
