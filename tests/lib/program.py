@@ -10,7 +10,7 @@ TOP = pathlib.Path(__file__).resolve().parent.parent.parent
 SEED = "--seed=00000000-0000-0000-0000-000000000001"
 # Tools that tests ask, and the Debian packages that have them.
 PACKAGES = {
-    "cc": "gcc", "fdisk": "fdisk", "hyperfine": "hyperfine", "mandoc": "mandoc", "parted": "parted", "partx": "util-linux", "sfdisk": "fdisk",
+    "bash": "bash", "cc": "gcc", "dpkg-deb": "dpkg", "fdisk": "fdisk", "hyperfine": "hyperfine", "man": "man-db", "mandoc": "mandoc", "parted": "parted", "partx": "util-linux", "sfdisk": "fdisk",
     "sgdisk": "gdisk", "shellcheck": "shellcheck", "strace": "strace", "systemd-analyze": "systemd", "systemd-repart": "systemd-repart or systemd",
     "time": "time", "veritysetup": "cryptsetup-bin",
 }
