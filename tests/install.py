@@ -49,6 +49,14 @@ def folders_of_others(to):
     expect("what is left", below(to), kept)
 
 
+def stopped(to):
+    """What was made until it was stopped is removed as well."""
+    words = f"'{TOP}/tools/install' | head -n 3"
+    asked("sh", "-c", words, env={**os.environ, "DESTDIR": str(to), "PREFIX": "/usr", "REPART": REPART})
+    expect("remove", install(to, "--remove").status, 0)
+    expect("what is left", below(to), [])
+
+
 def page_of_others(to):
     """Another's page repart.d(5) stays the one of that name, and the manuals name ours."""
     other = to / "usr" / OTHERS_PAGE
@@ -65,7 +73,7 @@ def page_of_others(to):
 
 
 def main():
-    for case in (everything, folders_of_others, page_of_others):
+    for case in (everything, folders_of_others, stopped, page_of_others):
         with tempfile.TemporaryDirectory() as room:
             case(pathlib.Path(room))
     end()
