@@ -66,8 +66,9 @@ def page_of_others(to):
     expect("pages", below(other.parent), ["repart-definitions.5", "repart.d.5.gz"])
     page = (other.parent / "repart-definitions.5").read_text()
     expect("its title", ("\n.Dt REPART-DEFINITIONS 5\n" in page, "\n.Nm repart-definitions\n" in page), (True, True))
-    manual = (to / "usr/share/man/man8/repart.8").read_text()
-    expect("the manual names it", (".Xr repart-definitions 5" in manual, ".Xr repart.d 5" in manual), (True, False))
+    for name in ("man7/image-policy.7", "man8/repart.8"):
+        manual = (to / "usr/share/man" / name).read_text()
+        expect(f"{name} names it", (".Xr repart-definitions 5" in manual, ".Xr repart.d 5" in manual), (True, False))
     expect("remove", install(to, "--remove").status, 0)
     expect("another's page is left", below(other.parent), ["repart.d.5.gz"])
 

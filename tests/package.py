@@ -60,8 +60,9 @@ def is_installed(root):
     shown = asked(root / "usr/bin/repart", "show", image)
     expect("what is installed shows an image", (shown.status, shown.out), (0, (TOP / "crates/repart/stdout").read_text()))
     expect("the program in a system for other machines", os.readlink(root / "usr/bin/repart"), "../lib/repart/repart")
-    manual = gzip.decompress((root / "usr/share/man/man8/repart.8.gz").read_bytes()).decode()
-    expect("the manual names the page on definition files", (".Xr repart-definitions 5" in manual, ".Xr repart.d 5" in manual), (True, False))
+    for name in ("man7/image-policy.7", "man8/repart.8"):
+        manual = gzip.decompress((root / "usr/share/man" / f"{name}.gz").read_bytes()).decode()
+        expect(f"{name} names the page on definition files", (".Xr repart-definitions 5" in manual, ".Xr repart.d 5" in manual), (True, False))
     expect("copyright", len((root / "usr/share/doc/repart/copyright").read_text().splitlines()), 1)
     if has("man", "manuals aren't shown"):
         for section, name in (("8", "repart"), ("5", "repart-definitions"), ("7", "image-policy")):
