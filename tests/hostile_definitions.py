@@ -1,288 +1,24 @@
 #!/usr/bin/env python3
-"""Reads random definition folders by `rp_records` and by a second reader, written here from docs/FORMATS.md alone.
+"""Random definition folders are read, and planned for on a blank disk, as a second reader and a second planner do it.
 
-    tools/hostile-definitions [COUNT [SEED]]
+    tests/hostile_definitions.py [COUNT [SEED]]
 
 A run is given one to three folders with main files and drop-ins, good and bad values, lines and bytes, files that mask others,
-names that are no candidates, and now and then too many or too big files. Each has to end with status 0 or 3 and print exactly
-what the second reader says: the definitions, or the first fault. Ends with status 1 at the first difference, which it prints,
-else 0.
+names that are no candidates, and now and then too many or too big files; sources that are there and some that aren't; and blank images of
+several lengths. `plan` has to print exactly what lib/reading.py and lib/planning.py say: the rows, what is dropped and ignored, or the
+first fault. With --all there are 20,000 runs. The test ends at the first run that differs.
 """
 import collections
 import pathlib
 import random
-import re
-import subprocess
 import sys
 import tempfile
 
-TOP = pathlib.Path(__file__).resolve().parent.parent
-BUILD = TOP / "tools" / "records"
-RECORDS = TOP / "crates" / "rp_records" / "out" / "rp_records"
-ARCH = "x86-64"
-NO_AUTO, READ_ONLY, GROW = 1 << 63, 1 << 60, 1 << 59
-BITS = {"none": 0, "all": NO_AUTO | READ_ONLY | GROW, "no-auto": NO_AUTO, "no-auto, read-only": NO_AUTO | READ_ONLY}
-HEX = "[0-9a-f]"
-HYPHENATED = f"{HEX}{{8}}(?:-{HEX}{{4}}){{3}}-{HEX}{{12}}"
-GUID = re.compile(rf"(?ai:{HEX}{{32}}|{HYPHENATED}|\{{{HYPHENATED}\}}|urn:uuid:{HYPHENATED})")
-UNITS = {"": 1, "B": 1, "K": 1 << 10, "M": 1 << 20, "G": 1 << 30, "T": 1 << 40}
-ON, OFF = ("1", "yes", "y", "true", "t", "on"), ("0", "no", "n", "false", "f", "off")
-REFUSED = ["CopyFiles", "Encrypt", "Flags", "Format", "MakeDirectories", "Minimize", "MountPoint", "Subvolumes"]
-KEYS = ["Type", "Label", "UUID", "Priority", "Weight", "PaddingWeight", "SizeMinBytes", "SizeMaxBytes", "PaddingMinBytes",
-        "PaddingMaxBytes", "CopyBlocks", "Verity", "VerityMatchKey", "NoAuto", "ReadOnly", "GrowFileSystem",
-        "FactoryReset"] + REFUSED + ["SplitName"]
-
-
-def partition_types():
-    """The types of docs/FORMATS.md: by name, the GUID's digits and the supported bits."""
-    row = re.compile(rf"\| ([a-z0-9-]+) \| ({HYPHENATED}) \| ([a-z, -]+) \|")
-    rows = (row.fullmatch(line) for line in (TOP / "docs" / "FORMATS.md").read_text().splitlines())
-    return {found[1]: (found[2], BITS[found[3]]) for found in rows if found}
-
-
-TYPES = partition_types()
-
-
-class Fault(Exception):
-    """The first fault of a definition: the drop-in, the line, and what is wrong as `rp_records` prints it."""
-
-    def __init__(self, part, line, kind):
-        super().__init__(kind)
-        self.part, self.line, self.kind = part, line, kind
-
-
-def guid(text):
-    """The GUID that a text says, hyphenated and in lower case, or none where it says none or is all zero."""
-    if not GUID.fullmatch(text):
-        return None
-    digits = "".join(re.findall(HEX, text.lower().removeprefix("urn:uuid:")))
-    if not digits.strip("0"):
-        return None
-    return "-".join((digits[:8], digits[8:12], digits[12:16], digits[16:20], digits[20:]))
-
-
-def assignments(data, part):
-    """The assignments of a definition file in order, each with its section and line."""
-    def fail(line, kind):
-        raise Fault(part, line, f"Ini({kind} {{ line: {line} }})")
-
-    try:
-        data.decode()
-    except UnicodeDecodeError as error:
-        fail(1 + data.count(b"\n", 0, error.start), "NotUtf8")
-    lines = data.removeprefix(b"\xef\xbb\xbf").split(b"\n")
-    if not lines[-1]:
-        lines.pop()
-    logical, open_line = [], None
-    for number, line in enumerate(lines, 1):
-        line = line.removesuffix(b"\r").lstrip(b" \t")
-        if line[:1] in (b"#", b";"):
-            continue
-        start, front = open_line or (number, b"")
-        if (len(line) - len(line.rstrip(b"\\"))) % 2:
-            open_line = start, front + line[:-1] + b" "
-        else:
-            open_line = None
-            logical.append((start, front + line))
-    if open_line:
-        logical.append(open_line)
-    found, section = [], None
-    for number, line in logical:
-        if len(line) > 4096:
-            fail(number, "TooLong")
-        line = line.rstrip(b" \t")
-        if not line:
-            continue
-        if line[:1] == b"[":
-            name = line[1:-1]
-            if line[-1:] != b"]" or len(line) < 3 or b"[" in name or b"]" in name:
-                fail(number, "BadLine")
-            section = name
-            continue
-        key, equals, value = line.partition(b"=")
-        if not equals or not key.strip(b" \t"):
-            fail(number, "BadLine")
-        if section is None:
-            fail(number, "NoSection")
-        found.append((section, key.strip(b" \t").decode(), value.strip(b" \t").decode(), number))
-    return found
-
-
-def specified(text):
-    """A text with its specifiers replaced, or none."""
-    if "%" in re.sub("%[%a]", "", text):
-        return None
-    return re.sub("%([%a])", lambda found: "%" if found[1] == "%" else ARCH, text)
-
-
-def type_of(text):
-    if re.fullmatch("(root|usr)(-verity|-verity-sig)?", text):
-        first, *rest = text.split("-", 1)
-        text = "-".join([first, ARCH, *rest])
-    return TYPES[text][0] if text in TYPES else guid(text)
-
-
-def number(text, sign, least, most):
-    found = re.fullmatch(rf"{sign}[0-9]+", text)
-    return int(text) if found and least <= int(text) <= most else None
-
-
-def size(text):
-    found = re.fullmatch("([0-9]+)([BKMGT]?)", text)
-    bytes_ = int(found[1]) * UNITS[found[2]] if found else 1 << 61
-    return bytes_ if bytes_ <= 1 << 60 else None
-
-
-def value(key, text):
-    """The value of a key, or the kind of fault."""
-    if (key, text) in (("UUID", "null"), ("CopyBlocks", "auto"), ("Verity", "signature")):
-        return None, "Unsupported"
-    if key in REFUSED:
-        return None, None if (key, text) in (("Encrypt", "off"), ("Minimize", "off")) else "Unsupported"
-    if key == "Type":
-        read = type_of(text)
-    elif key == "UUID":
-        read = guid(text)
-    elif key == "Label":
-        read = specified(text)
-        if read is not None and len(read.encode("utf-16-le")) > 72:
-            return None, "LabelTooLong"
-        read = None if read is not None and "\0" in read else read
-    elif key == "Priority":
-        read = number(text, "[-+]?", -1 << 31, (1 << 31) - 1)
-    elif key in ("Weight", "PaddingWeight"):
-        read = number(text, "", 0, 1000000)
-    elif key.endswith("Bytes"):
-        read = size(text)
-    elif key == "CopyBlocks":
-        read = specified(text)
-        read = read if read is not None and "\0" not in read and len(read.encode()) <= 4095 else None
-    elif key == "Verity":
-        read = text if text in ("off", "data", "hash") else None
-    elif key == "VerityMatchKey":
-        read = text if len(text.encode()) <= 64 else None
-    elif key == "SplitName":
-        read = specified(text)
-        if read == "-":
-            return None, None
-        if read is not None and (read in (".", "..") or "/" in read or "\0" in read or len(read.encode()) > 128):
-            read = None
-    else:
-        read = True if re.sub("[A-Z]", lambda c: c[0].lower(), text) in ON else \
-            False if re.sub("[A-Z]", lambda c: c[0].lower(), text) in OFF else None
-    return read, "BadValue" if read is None else None
-
-
-def definition(pieces):
-    """A definition of a main file and its drop-ins, and how many assignments are ignored."""
-    last, ignored = {}, 0
-    for part, data in pieces:
-        for section, key, text, line in assignments(data, part):
-            if section == b"Partition" and key in KEYS:
-                last[key] = text, part, line
-            else:
-                ignored += 1
-    values = {}
-    for place, key in enumerate(KEYS):
-        text, part, line = last.get(key, ("", "", 0))
-        values[key] = None
-        if text:
-            values[key], kind = value(key, text)
-            if kind:
-                named = kind in ("BadValue", "Unsupported")
-                raise Fault(part, line, f"{kind} {{ key: {place} }} {key}" if named else kind)
-        elif key == "Type":
-            raise Fault("", 0, "NoType")
-
-    def of(key, unset):
-        return unset if values[key] is None else values[key]
-
-    half = of("Verity", "off")
-    greatest, padding_greatest = (of(key, 1 << 64) // 4096 for key in ("SizeMaxBytes", "PaddingMaxBytes"))
-    least = -(-of("SizeMinBytes", min(2560, greatest) * 4096 if half == "off" else 0) // 4096)
-    least = max(least, 1) if half == "off" else least
-    padding_least = -(-of("PaddingMinBytes", 0) // 4096)
-    if least > greatest or padding_least > padding_greatest:
-        raise Fault("", 0, "Limits")
-    name = next((name for name, row in TYPES.items() if row[0] == values["Type"]), "")
-    supported = TYPES[name][1] if name else 0
-    attrs = NO_AUTO if of("NoAuto", False) else 0
-    attrs |= READ_ONLY if of("ReadOnly", "-verity" in name) else 0
-    attrs &= supported
-    attrs |= GROW & supported if of("GrowFileSystem", not attrs & READ_ONLY) else 0
-    sizes = (f"size {least}-{greatest} weight {of('Weight', 1000) if half == 'off' else 0}"
-             f" padding {padding_least}-{padding_greatest} weight {of('PaddingWeight', 0)}")
-    return {"type": name or values["Type"], "sizes": sizes, "attrs": attrs, "priority": of("Priority", 0), "half": half,
-            "id": values["UUID"], "source": values["CopyBlocks"], "label": values["Label"],
-            "match": values["VerityMatchKey"], "reset": values["FactoryReset"], "split": values["SplitName"]}, ignored
-
-
-def winners(folders):
-    """The candidates of folders by name, in byte order: of one name in several folders the first counts."""
-    found = {}
-    for files in folders:
-        for name, data in files.items():
-            if name.endswith(".conf") and not name.startswith("."):
-                found.setdefault(name, data)
-    return sorted(found.items(), key=lambda one: one[0].encode())
-
-
-def loaded(tops):
-    """The main files of these folders with their pieces, or the text of the first fault. A folder is its files by name, and the
-    files of its drop-in folders by that folder's name and theirs."""
-    mains = [(file, data, winners([drops.get(file + ".d", {}) for _, drops in tops])) for file, data in winners([own for own, _ in tops])]
-    if len(mains) + sum(len(parts) for _, _, parts in mains) > 256:
-        return None, "TooMany\n"
-    folder = []
-    for file, data, parts in mains:
-        pieces = [("", data), *((part, own) for part, own in parts if own)] if data else []
-        for part, own in pieces:
-            if len(own) > 65536:
-                return None, f"{file} {part}:0 TooBig\n"
-        if pieces:
-            folder.append((file, pieces))
-    return folder, None
-
-
-def records(tops):
-    """What `rp_records` has to print of folders, and its status."""
-    folder, fault = loaded(tops)
-    return (fault, 3) if fault else of_folder(folder)
-
-
-def of_folder(folder):
-    """What `rp_records` has to print of a folder, given as main files with their pieces, and its status."""
-    read, ignored = [], 0
-    for file, pieces in folder:
-        try:
-            one, more = definition(pieces)
-        except Fault as fault:
-            return f"{file} {fault.part}:{fault.line} {fault.kind}\n", 3
-        read.append((file, one))
-        ignored += more
-    halves = collections.defaultdict(list)
-    for place, (_, one) in enumerate(read):
-        if one["half"] != "off":
-            halves[one["match"], one["half"]].append(place)
-    text = ""
-    for file, one in read:
-        pair = [halves[one["match"], half] for half in ("data", "hash")]
-        if one["half"] != "off" and (one["match"] is None or [len(places) for places in pair] != [1, 1]
-                                     or (one["source"] is None) != (one["half"] == "hash")):
-            return f"{file} :0 VerityPair\n", 3
-        priority = one["priority"]
-        if one["half"] != "off":
-            priority = max(read[places[0]][1]["priority"] for places in pair)
-        text += f"{file} type {one['type']} {one['sizes']} attrs {one['attrs']:016x} priority {priority}"
-        text += f" id {one['id']}" if one["id"] else ""
-        text += " reset" if one["reset"] else ""
-        text += f" source {one['source']}" if one["source"] is not None else ""
-        text += f" {one['half']} {pair[one['half'] == 'data'][0]}" if one["half"] != "off" else ""
-        text += f" split {one['split']}" if one["split"] is not None else ""
-        text += f" label {one['label'].encode('utf-16-be').hex()}" if one["label"] is not None else ""
-        text += "\n"
-    return text + f"ignored {ignored}\n", 0
-
+from lib.definitions import random_files
+from lib.images import random_bytes, sparse
+from lib.planning import planned
+from lib.program import ALL, SEED, end, run, wrong
+from lib.reading import ARCH, KEYS, REFUSED
 
 ANY_GUID = ["0123456789abcdef0123456789abcdef", "0" * 32, "{01234567-89ab-cdef-0123-456789ABCDEF}", "{" + "1" * 32 + "}",
             "Urn:UUID:01234567-89ab-cdef-0123-456789abcdef", "null", "NULL", "01234567-89ab-cdef-0123-456789abcdeg", ""]
@@ -344,11 +80,6 @@ def random_file(dice, is_main, half=None):
     return dice.choice([b"\xef\xbb\xbf", b"", b"", b"", b"", b"", b"", b""]) + data
 
 
-def kind_of(text):
-    """The kind of a fault that is printed."""
-    return re.sub(r"^[^:]*:\d+ ", "", text).split(" ")[0].split("{")[0].strip()
-
-
 def random_tops(dice):
     """One to three folders, each as its files by name and its drop-in folders' files."""
     tops = [({}, {}) for _ in range(dice.choice([1, 1, 1, 2, 3]))]
@@ -379,6 +110,15 @@ def random_tops(dice):
     return tops
 
 
+def good_tops(dice):
+    """A folder of good definitions, some of them of the same identifier, and now and then more than there are slots."""
+    files = random_files(dice)
+    if dice.random() < .02:
+        files.update({f"m{number}.conf": "Type=swap\nSizeMinBytes=4K\n" for number in range(dice.randint(120, 140))})
+    same = "UUID=11111111-2222-4333-8444-555555555555\n"
+    return [({name: ("[Partition]\n" + lines + (same if dice.random() < .05 else "")).encode() for name, lines in files.items()}, {})]
+
+
 def write(tops, top):
     """Writes the folders below one, and gives their paths."""
     paths = []
@@ -392,31 +132,45 @@ def write(tops, top):
     return paths
 
 
-def main():
-    count = int(sys.argv[1]) if len(sys.argv) > 1 else 2000
-    dice = random.Random(int(sys.argv[2]) if len(sys.argv) > 2 else 1)
-    # With no words the program answers 2; any other status is a build that failed.
-    built = subprocess.run([BUILD], capture_output=True, text=True)
-    if built.returncode != 2:
-        print(f"hostile-definitions: no rp_records: {built.stdout}{built.stderr}", file=sys.stderr)
-        return 1
-    seen = collections.Counter()
-    for _ in range(count):
-        tops = random_tops(dice)
-        with tempfile.TemporaryDirectory() as name:
-            paths = write(tops, pathlib.Path(name))
-            run = subprocess.run([RECORDS, *paths], capture_output=True, timeout=60)
-        text, status = records(tops)
-        if (run.stdout, run.returncode) != (text.encode(), status):
-            print(f"{tops}\nrp_records: {run.returncode} {run.stdout!r}\nhere: {status} {text!r}")
-            return 1
-        seen["definitions" if status == 0 else kind_of(text)] += 1
-        seen["with a pair"] += status == 0 and (" data " in text)
-        seen["split"] += status == 0 and (" split " in text)
-        seen["several folders"] += len(tops) > 1
-    print(", ".join(f"{kind} {number}" for kind, number in seen.most_common()))
-    return 0
+# what the sources hold that are there, and the lengths of images
+SOURCES = {"a": 5000, ARCH: 1, "%": 700000, "s": 130 * 4096 + 100, "source-1": 4096, "source-2": 200000, "source-3": 0}
+SIZES = [64 << 20, 64 << 20, 2 << 20, (1 << 20) + (36 << 10), 5 << 30, 3 << 40]
 
 
-if __name__ == "__main__":
-    sys.exit(main())
+def one_run(dice, folder, sources, size, seen):
+    """A run in a folder of its own; gives what differs, or none."""
+    tops = good_tops(dice) if dice.random() < .4 else random_tops(dice)
+    paths = write(tops, folder)
+    image = sparse(folder / "image", size)
+    answer = run("plan", "--definitions=" + ":".join(map(str, paths)), SEED, "--empty=allow", image, cwd=folder.parent, timeout=60)
+    status, text = planned(tops, sources, size, SEED)
+    # the last line has the steps
+    printed = "".join(answer.out.splitlines(True)[:-1]) if answer.status == 0 else answer.out
+    if (answer.status, printed) != (status, text):
+        return f"{tops}\nrepart: {answer.status} {answer.out!r}\nhere: {status} {text!r}"
+    seen[f"planned on {size} bytes" if status == 0 else " ".join([*text.split()[:2], *text.split()[(3 if status == 3 else 2):][:1]])] += 1
+    seen["with a pair"] += "-verity start" in text
+    seen["with some dropped"] += "\ndropped " in text
+    seen["with several rows"] += "\n1 new " in text
+    seen["several folders"] += len(tops) > 1
+    return None
+
+
+COUNT = int(sys.argv[1]) if len(sys.argv) > 1 else 20000 if ALL else 1500
+NUMBER = int(sys.argv[2]) if len(sys.argv) > 2 else 1
+seen = collections.Counter()
+with tempfile.TemporaryDirectory() as name:
+    top = pathlib.Path(name)
+    sources = {source: random_bytes(random.Random(length), length) for source, length in SOURCES.items()}
+    for source, data in sources.items():
+        (top / source).write_bytes(data)
+    for number in range(COUNT):
+        dice = random.Random(f"{NUMBER} {number}")
+        with tempfile.TemporaryDirectory(dir=name) as own:
+            fault = one_run(dice, pathlib.Path(own), sources, dice.choice(SIZES), seen)
+        if fault:
+            wrong(f"run {number} of seed {NUMBER}: {fault}")
+            break
+for what, many in seen.most_common():
+    print(f"{many:6} {what}")
+end()

@@ -25,14 +25,13 @@ import sys
 import tempfile
 
 from lib import gpt
-from lib.definitions import write
+from lib.definitions import KINDS, random_files, write
 from lib.gpt import rows_of
 from lib.images import random_bytes, random_guid
 from lib.program import ALL, end, run, wrong
 
 MIB = 1 << 20
 NONE = "00000000-0000-0000-0000-000000000000"
-KINDS = ["linux-generic", "home", "swap", "esp", "root-x86-64", "root-x86-64-verity", "21686148-6449-6e6f-744e-656564454649"]
 
 
 class Differs(Exception):
@@ -111,40 +110,6 @@ def random_image(dice, path):
     return sector, word
 
 
-def random_size(dice):
-    return dice.choice(["4K", "8K", "100K", f"{dice.randint(1, 300) * 4}K", str(dice.randint(1, 1 << 20)), f"{dice.randint(1, 3)}M"])
-
-
-def random_definition(dice, kind):
-    """The lines of a definition, without verity."""
-    lines = [f"Type={kind}", f"SizeMinBytes={dice.choice(['0', '4K', '64K', random_size(dice)])}"]
-    switches = ["yes", "no"]
-    for chance, key, value in (
-            (.2, "SizeMaxBytes", dice.choice(["2M", "3M", "64K", random_size(dice)])),
-            (.5, "Weight", dice.choice([0, 1, 333, 1000, 2000, 999999])), (.2, "PaddingWeight", dice.choice([1, 100, 1000])),
-            (.2, "PaddingMinBytes", dice.choice(["4K", "64K", random_size(dice)])),
-            (.15, "PaddingMaxBytes", dice.choice(["1M", random_size(dice)])),
-            (.4, "Priority", dice.choice([-1, 0, 1, 2, 5])), (.2, "Label", dice.choice(["x", "a b", "é" * 36])), (.15, "UUID", random_guid(dice)),
-            (.2, "NoAuto", dice.choice(switches)), (.2, "ReadOnly", dice.choice(switches)), (.2, "GrowFileSystem", dice.choice(switches)),
-            (.2, "CopyBlocks", f"source-{dice.randint(1, 3)}")):
-        if dice.random() < chance:
-            lines.append(f"{key}={value}")
-    return lines
-
-
-def random_definitions(dice, folder, there):
-    """Writes a folder of definitions, more often than not of types that are there."""
-    kinds = [kind for kind in KINDS if "verity" not in kind]
-    made = [random_definition(dice, dice.choice(there if there and dice.random() < .7 else kinds))
-            for _ in range(dice.choice([0, 1, 1, 2, 2, 3, 4, 6]))]
-    if dice.random() < .25:
-        made.append(["Type=root", "Verity=data", "VerityMatchKey=m", f"CopyBlocks=source-{dice.randint(1, 3)}",
-                     *dice.choice([[], ["SizeMinBytes=400K"], ["Priority=3"]])])
-        made.append(["Type=root-verity", "Verity=hash", "VerityMatchKey=m"])
-    dice.shuffle(made)
-    write(folder, {f"{place}.conf": "\n".join(lines) + "\n" for place, lines in enumerate(made)})
-
-
 def answer(words, folder):
     """The status of the program and what it prints."""
     return tuple(run(*words, cwd=folder)[:2])
@@ -203,7 +168,7 @@ def one_case(dice, folder, seen):
     empty = dice.choice(["allow"] * 5 + ["refuse"] * 2 + ["require"])
     sectors = [f"--sector-size={sector}"] if sector != 512 else []
     old = rows_of(answer(["show", *sectors, "image"], folder)[1])
-    random_definitions(dice, folder / "repart.d", [row.type for row in old.values()])
+    write(folder / "repart.d", random_files(dice, [row.type for row in old.values()]))
     options = [f"--empty={empty}", "--definitions=repart.d", *sectors]
     if dice.random() < .3:
         options.append(f"--size={len(before) + dice.randint(-MIB, MIB)}")
