@@ -129,8 +129,8 @@ def root_file_system(folder):
     (tree / "sbin" / "init").chmod(0o755)
     (tree / "etc" / "os-release").touch()
     made = folder / "root.raw"
-    subprocess.run(["mke2fs", "-q", "-t", "ext4", "-b", "4096", "-O", "^has_journal", "-L", LABEL, "-U", FILE_SYSTEM, "-d", tree, made, "4M"],
-                   check=True, stdout=subprocess.DEVNULL)
+    subprocess.run(["mke2fs", "-q", "-t", "ext4", "-b", "4096", "-O", "^has_journal", "-L", LABEL, "-U", FILE_SYSTEM, "-d", tree,
+                    made, "4M"], check=True, stdout=subprocess.DEVNULL)
     return made
 
 
@@ -204,7 +204,8 @@ class Machine:
         if losing is not None:
             log.touch()
             server = subprocess.Popen(["nbdkit", "--foreground", "--unix", socket, "python", TOP / "tests/lib/losing_disk.py",
-                                       f"file={disk}", f"log={log}", *(f"{name}={value}" for name, value in losing.items())], stderr=subprocess.DEVNULL)
+                                       f"file={disk}", f"log={log}", *(f"{name}={value}" for name, value in losing.items())],
+                                      stderr=subprocess.DEVNULL)
             drive = f"nbd:unix:{socket}"
             while not socket.exists() and server.poll() is None:
                 time.sleep(0.02)
@@ -297,9 +298,9 @@ def moments(lines):
 def forms(small):
     """Each form of root=, and the device on which it is tried."""
     root = shown(small)[1]
-    return [(f"PARTUUID={root[3]}", "virtio-blk-pci"), (f"PARTLABEL={root[5]}", "virtio-blk-pci"), (f"UUID={FILE_SYSTEM}", "virtio-blk-pci"),
-            (f"LABEL={LABEL}", "virtio-blk-pci"), ("/dev/vda2", "virtio-blk-pci"), (f"/dev/disk/by-partuuid/{root[3]}", "virtio-blk-pci"),
-            ("/dev/nvme0n1p2", "nvme,serial=1"), (f"PARTLABEL={root[5]}", "nvme,serial=1")]
+    texts = [f"PARTUUID={root[3]}", f"PARTLABEL={root[5]}", f"UUID={FILE_SYSTEM}", f"LABEL={LABEL}", "/dev/vda2",
+             f"/dev/disk/by-partuuid/{root[3]}"]
+    return [(text, "virtio-blk-pci") for text in texts] + [(text, "nvme,serial=1") for text in ("/dev/nvme0n1p2", texts[1])]
 
 
 def cuts(machine, small, goal, lines, folder):
@@ -351,7 +352,7 @@ def failed_flushes(machine, small, goal, lines, folder):
         text, _ = machine.boot(disk, f"root={forms(small)[0][0]}", f"repart.seed={SEED}")
         booted("the boot behind it", text)
         expect(f"the bytes behind the failed flush {number}", digest(disk), digest(goal))
-        told(f"flush {number} fails: status 7, {'the goal' if table == shown(goal) else 'the old table'}, and the next boot leaves the goal")
+        told(f"flush {number} fails: status 7, {'goal' if table == shown(goal) else 'old table'}, and the next boot leaves the goal")
 
 
 
@@ -382,7 +383,8 @@ def source_and_reset(folder, small):
     system = System(folder / "with-source", "initramfs-tools")
     definitions, source = system.lib / "repart.d", os.urandom(3 * MIB)
     for name, lines in {"40-swap.conf.d/size.conf": "SizeMinBytes=32M\nSizeMaxBytes=32M\n",
-                        "50-data.conf": "Type=linux-generic\nCopyBlocks=/usr/lib/repart/sources/data.raw\nSizeMaxBytes=3M\nFactoryReset=yes\n",
+                        "50-data.conf": "Type=linux-generic\nCopyBlocks=/usr/lib/repart/sources/data.raw\n"
+                                        "SizeMaxBytes=3M\nFactoryReset=yes\n",
                         "60-var.conf": "Type=var\nSizeMinBytes=8M\nSizeMaxBytes=8M\n"}.items():
         (definitions / name).parent.mkdir(exist_ok=True)
         (definitions / name).write_text("[Partition]\n" + lines, encoding="ascii")
@@ -434,22 +436,26 @@ def other_devices(folder, small, goal):
 
 
 def dracut(folder, small, goal):
-    """An initrd of dracut, which gets its seed by a credential."""
+    """An initrd of dracut, which gets its seed by a credential, and finds a disk of which only the second copy of the table is valid."""
     if not shutil.which("dracut"):
         told("without dracut (Debian package dracut-core): its initrd")
         return
     system = System(folder / "dracut", "dracut")
     machine = Machine(system.initrd("initrd"))
     disk = larger(small, folder / "dracut.img")
-    for what in ("first", "second"):
+    for what in ("first boot", "second boot", "boot behind a cut in the first copy"):
+        if "cut" in what:
+            with open(disk, "r+b") as file:
+                file.seek(512)
+                file.write(bytes(512))
         text, _ = machine.boot(disk, f"root={forms(small)[0][0]}", "systemd.journald.forward_to_console=1",
                                qemu=["-smbios", f"type=11,value=io.systemd.credential:repart.seed={SEED}"])
         growth, mount = re.search(r"grow-disk\[\d+\]: applied", text), text.find("ROOT MOUNTED")
         if not growth or not growth.start() < mount or "BOOT ENDS" not in text:
-            wrong(f"dracut: the {what} boot doesn't mount the root behind a growth:\n{text[-4000:]}")
+            wrong(f"dracut, {what}: the root isn't mounted behind a growth:\n{text[-4000:]}")
             return
-        expect(f"the bytes behind the {what} boot of dracut", digest(disk), digest(goal))
-        told(f"dracut, {what} boot, {machine.seconds:.0f} s")
+        expect(f"the bytes behind dracut's {what}", digest(disk), digest(goal))
+        told(f"dracut, {what}, {machine.seconds:.0f} s")
 
 
 def main(parts):
