@@ -4,7 +4,7 @@ use Rattle.std.specs.Prelude.{IfSome}
 use Rattle.std.specs.Prelude.{All, Any}
 use Rattle.rp_base.specs.Plan.{noted_of}
 use Rattle.rp_disk.specs.History.{IsLawful, held}
-use Rattle.rp_disk.specs.Made.{Made, history_of, history_told}
+use Rattle.rp_disk.specs.Made.{Past, Made, history_of, history_told}
 use Rattle.rp_io.specs.declared.stored.Stored.{Stored}
 use Rattle.rp_steps.specs.Steps.{steps}
 use Rattle.rp_steps.specs.declared.step.Step.{Step}
@@ -27,18 +27,18 @@ use Rattle.rp_apply.proofs.Judging.{changes_at, complete}
 
 module _ (ready : Ready) (is : IsReady ready) where
   -- the steps were made that are ready
-  abbrev pub Makes : {T : Type 0} → Option (List Stored) → Option (List ℕ) → List Made → List Made → Result T ApplyFault → Type 0
+  abbrev pub Makes : {T : Type 0} → Option (List Stored) → Option Past → List Made → List Made → Result T ApplyFault → Type 0
   Makes told first old new result =
       (founds : List Found) × MakesSteps ready.plan (outside_of told ready.paths first) ready.steps founds old new result
 
   -- which are those of the plan
-  of_plan : {T : Type 0} (told : Option (List Stored)) (first : Option (List ℕ)) (old new : List Made) (result : Result T ApplyFault) → Makes told first old new result
+  of_plan : {T : Type 0} (told : Option (List Stored)) (first : Option Past) (old new : List Made) (result : Result T ApplyFault) → Makes told first old new result
       → (founds : List Found) × MakesSteps ready.plan (outside_of told ready.paths first) (steps ready.plan ready.seen) founds old new result
   of_plan told first old new result makes =
       let P : List Step → Type 0 = λ l. (founds : List Found) × MakesSteps ready.plan (outside_of told ready.paths first) l founds old new result in
       subst P is.steps makes
 
-  pub planned_of : {T : Type 0} (told : Option (List Stored)) (first : Option (List ℕ)) (old new : List Made) (result : Result T ApplyFault)
+  pub planned_of : {T : Type 0} (told : Option (List Stored)) (first : Option Past) (old new : List Made) (result : Result T ApplyFault)
       → Makes told first old new result → IfSome told (λ files. MakesPlanned ready files first old new result)
   planned_of None first old new result makes = tt
   planned_of (Some files) None old new result makes = tt
@@ -46,7 +46,7 @@ module _ (ready : Ready) (is : IsReady ready) where
       let m = of_plan (Some files) (Some bytes) old new result makes in
       planned_runs ready.seen ready.plan is.well_formed is.notes_fit ready.paths files bytes m.0 old new result m.1 long
 
-  pub changed_of : {T : Type 0} (told : Option (List Stored)) (first : Option (List ℕ)) (old new : List Made) (result : Result T ApplyFault)
+  pub changed_of : {T : Type 0} (told : Option (List Stored)) (first : Option Past) (old new : List Made) (result : Result T ApplyFault)
       → Makes told first old new result → IfSome told (λ files. ChangesAtRoots ready files first old result)
   changed_of None first old new result makes = tt
   changed_of (Some files) None old new result makes = tt
@@ -54,7 +54,7 @@ module _ (ready : Ready) (is : IsReady ready) where
       let m = of_plan (Some files) (Some bytes) old new result makes in
       changes_at ready.seen ready.plan is.well_formed is.notes_fit ready.paths files bytes m.0 old new result m.1 long
 
-  pub complete_of : {T : Type 0} (told : Option (List Stored)) (first : Option (List ℕ)) (old new : List Made) (a b c d : ℕ) (result : Result T ApplyFault)
+  pub complete_of : {T : Type 0} (told : Option (List Stored)) (first : Option Past) (old new : List Made) (a b c d : ℕ) (result : Result T ApplyFault)
       → Makes told first old new result → HasDiskCause a b result → HasSourceCause c d result
       → IfSome told (λ files. IsComplete ready files first old a b c d result)
   complete_of None first old new a b c d result makes disk source = tt
@@ -62,7 +62,7 @@ module _ (ready : Ready) (is : IsReady ready) where
   complete_of (Some files) (Some bytes) old new a b c d result makes disk source = λ long roots still quiet.
       complete ready.plan (sources_of ready files) a b c d result disk source (changed_of (Some files) (Some bytes) old new result makes long) roots still quiet
 
-  pub ended_of : {T : Type 0} (told : Option (List Stored)) (first : Option (List ℕ)) (old new : List Made) (result : Result T ApplyFault)
+  pub ended_of : {T : Type 0} (told : Option (List Stored)) (first : Option Past) (old new : List Made) (result : Result T ApplyFault)
       → Makes told first old new result → IfSome told (λ files. OnOk result (EndsFinal ready files first old new))
   ended_of None first old new result makes = tt
   ended_of (Some files) None old new (Ok value) makes = tt
@@ -74,7 +74,7 @@ module _ (ready : Ready) (is : IsReady ready) where
       let runs = planned_runs ready.seen ready.plan is.well_formed is.notes_fit ready.paths files bytes m.0 old new (Ok value) m.1 long in
       ends_final ready.seen ready.plan is.well_formed is.notes_fit (sources_of ready files) bytes old new sector empty runs.ok plan_is settled
 
-  pub any_moment_of : {T : Type 0} (told : Option (List Stored)) (first : Option (List ℕ)) (old new : List Made) (result : Result T ApplyFault)
+  pub any_moment_of : {T : Type 0} (told : Option (List Stored)) (first : Option Past) (old new : List Made) (result : Result T ApplyFault)
       → Makes told first old new result → AnyMomentIsSafe ready told first old new
   any_moment_of told None old new result makes = tt
   any_moment_of told (Some bytes) old new result makes = λ sector empty plan_is settled.
@@ -82,7 +82,7 @@ module _ (ready : Ready) (is : IsReady ready) where
       any_safe ready.seen ready.plan is.well_formed is.notes_fit told ready.paths bytes m.0 old new result sector empty m.1 plan_is settled
 
   -- no stray call on a disk as long as it was seen
-  pub strays_of : (first : Option (List ℕ)) (old : List Made) (before now : ℕ)
+  pub strays_of : (first : Option Past) (old : List Made) (before now : ℕ)
       → IfSome (history_told first old) (λ h. AllLieIn ready.plan (length (held h)) ready.steps → now ≡ before)
       → IfSome (history_told first old) (λ h. length (held h) ≡ 512 * ready.seen.sectors → now ≡ before)
   strays_of None old before now stays = tt
@@ -91,7 +91,7 @@ module _ (ready : Ready) (is : IsReady ready) where
       stays (subst (λ (n : ℕ). P n ready.steps) (sym long) (subst (λ (l : List Step). P (512 * ready.seen.sectors) l) (sym is.steps) (lies ready.seen ready.plan is.well_formed)))
 
   -- both hashes, where the disk tells
-  copied_of : {T : Type 0} (told : Option (List Stored)) (bytes : List ℕ) (old new : List Made) (fault : ApplyFault) → IsLawful (history_of bytes new)
+  copied_of : {T : Type 0} (told : Option (List Stored)) (bytes : Past) (old new : List Made) (fault : ApplyFault) → IsLawful (history_of bytes new)
       → (founds : List Found) × MakesSteps {T = T} ready.plan (outside_of told ready.paths (Some bytes)) (steps ready.plan ready.seen) founds old new (Err fault)
       → length (held (history_of bytes old)) ≡ 512 * ready.seen.sectors → IfChanged fault (λ planned copied.
       Any (λ noted. ShowsOther ready.plan (held (history_of bytes new)) planned copied noted.1.role) (noted_of ready.plan))
@@ -105,7 +105,7 @@ module _ (ready : Ready) (is : IsReady ready) where
       (can_make ready.paths ready.seen ready.plan is.well_formed (subst (λ (l : List Step). All (NamesPath ready.paths) l) is.steps is.paths))
       (subst (λ (n : ℕ). AllLieIn ready.plan n all) (sym long) lie) lawful m.1.changed)
 
-  pub told_of : {T : Type 0} (told : Option (List Stored)) (first : Option (List ℕ)) (old new : List Made) (result : Result T ApplyFault)
+  pub told_of : {T : Type 0} (told : Option (List Stored)) (first : Option Past) (old new : List Made) (result : Result T ApplyFault)
       → IfSome (history_told first new) IsLawful → Makes told first old new result → TellsShown ready first old new result
   told_of told None old new result lawful makes = tt
   told_of told (Some bytes) old new (Ok value) lawful makes = λ long. tt

@@ -6,7 +6,7 @@ use Rattle.rp_base.specs.declared.plan.Plan.{Plan}
 use Rattle.rp_base.specs.declared.seen.Seen.{Seen}
 use Rattle.rp_disk.specs.Blocks.{flat}
 use Rattle.rp_disk.specs.History.{History, IsSettled, LeftSince, all_did, moment, held}
-use Rattle.rp_disk.specs.Made.{Made, dones, history_of}
+use Rattle.rp_disk.specs.Made.{Past, Made, dones, history_of}
 use Rattle.rp_disk.specs.Runs.{Runs}
 use Rattle.rp_disk.specs.Stops.{Each}
 use Rattle.rp_disk.specs.declared.call.Call.{Call}
@@ -43,7 +43,7 @@ settled_flat start (block ∷ blocks) settled =
 
 module _ (seen : Seen) (plan : Plan) (formed : IsWellFormed seen plan) (fit : NotesFit plan) where
   -- where both tell, the calls are those of the plan
-  pub planned_runs : {T : Type 0} (paths : List (List ℕ)) (files : List Stored) (first : List ℕ) (founds : List Found) (old new : List Made) (result : Result T ApplyFault)
+  pub planned_runs : {T : Type 0} (paths : List (List ℕ)) (files : List Stored) (first : Past) (founds : List Found) (old new : List Made) (result : Result T ApplyFault)
       → MakesSteps plan (outside_of (Some files) paths (Some first)) (steps plan seen) founds old new result
       → length (held (history_of first old)) ≡ 512 * seen.sectors → Runs old (calls plan seen (sources_in files paths)) new result
   planned_runs paths files first founds old new result makes long =
@@ -54,7 +54,7 @@ module _ (seen : Seen) (plan : Plan) (formed : IsWellFormed seen plan) (fit : No
       subst (λ (l : List Call). Runs old l new result) same makes.ran
 
   -- the bytes shown are the final image, and nothing is pending
-  pub ends_final : (sources : Sources) (first : List ℕ) (old new : List Made) (sector : ℕ) (empty : Empty) → new ≡ old ++ dones (calls plan seen sources)
+  pub ends_final : (sources : Sources) (first : Past) (old new : List Made) (sector : ℕ) (empty : Empty) → new ≡ old ++ dones (calls plan seen sources)
       → IsPlanFor sector (held (history_of first old)) empty seen plan → IsSettled (history_of first old)
       → IsFinal (held (history_of first old)) seen plan (contents plan sources (grown (held (history_of first old)) plan)) (held (history_of first new))
       × IsSettled (history_of first new)
@@ -73,7 +73,7 @@ module _ (seen : Seen) (plan : Plan) (formed : IsWellFormed seen plan) (fit : No
       )
 
   -- at any moment, whatever the sources do
-  pub any_moment_with : {T : Type 0} (told : Option (List Stored)) (paths : List (List ℕ)) (first : List ℕ) (founds : List Found) (old new : List Made)
+  pub any_moment_with : {T : Type 0} (told : Option (List Stored)) (paths : List (List ℕ)) (first : Past) (founds : List Found) (old new : List Made)
       (result : Result T ApplyFault) (sector : ℕ) (empty : Empty) → MakesSteps plan (outside_of told paths (Some first)) (steps plan seen) founds old new result
       → IsPlanFor sector (held (history_of first old)) empty seen plan → IsSettled (history_of first old)
       → (body : List Call) × AreCallsOf seen plan body (all_calls plan founds (steps plan seen)) × ((made : List Call) (image : List ℕ)
@@ -82,10 +82,10 @@ module _ (seen : Seen) (plan : Plan) (formed : IsWellFormed seen plan) (fit : No
   any_moment_with told paths first founds old new result sector empty makes is settled =
       let all = all_calls plan founds (steps plan seen) in
       let are = are_calls_with plan (outside_of told paths (Some first)) seen formed fit old founds makes.found_are in
-      (are.0, are.1, any_moment sector first empty seen plan are.0 all old new (run_any_moment result (Some first) old new all makes.ran) settled is are.1)
+      (are.0, are.1, any_moment sector first empty seen plan are.0 all old new (run_any_moment result old new all makes.ran) settled is are.1)
 
   -- with the plan's own calls where the sources tell
-  pub any_safe : {T : Type 0} (told : Option (List Stored)) (paths : List (List ℕ)) (first : List ℕ) (founds : List Found) (old new : List Made)
+  pub any_safe : {T : Type 0} (told : Option (List Stored)) (paths : List (List ℕ)) (first : Past) (founds : List Found) (old new : List Made)
       (result : Result T ApplyFault) (sector : ℕ) (empty : Empty) → MakesSteps plan (outside_of told paths (Some first)) (steps plan seen) founds old new result
       → IsPlanFor sector (held (history_of first old)) empty seen plan → IsSettled (history_of first old)
       → (body : List Call) × Each (IsInNewRow plan) body × IfSome told (λ files. body ≡ contents_calls plan (sources_in files paths))
@@ -101,4 +101,4 @@ module _ (seen : Seen) (plan : Plan) (formed : IsWellFormed seen plan) (fit : No
       let are = are_calls seen plan sources formed fit in
       let long = (plan-given sector (held (history_of first old)) empty seen plan is).seen_of.len in
       let runs = planned_runs paths files first founds old new result makes long in
-      (body, are.inside, refl, any_moment sector first empty seen plan body all old new (run_any_moment result (Some first) old new all runs) settled is are)
+      (body, are.inside, refl, any_moment sector first empty seen plan body all old new (run_any_moment result old new all runs) settled is are)

@@ -8,7 +8,7 @@ use Rattle.rp_base.specs.declared.plan.Role.{Role}
 use Rattle.rp_base.specs.declared.plan.Role.TheVariants.{Plain, Data, Hash}
 use Rattle.rp_base.specs.declared.seen.Seen.{Seen}
 use Rattle.rp_disk.specs.History.{held}
-use Rattle.rp_disk.specs.Made.{Made, history_of}
+use Rattle.rp_disk.specs.Made.{Past, Made, history_of}
 use Rattle.rp_io.specs.declared.stored.Stored.{Stored}
 use Rattle.rp_steps.specs.Contents.{NotesFit, Sources}
 use Rattle.rp_steps.specs.Steps.{steps}
@@ -24,7 +24,7 @@ use Rattle.rp_apply.proofs.Roots.{other_among, roots_planned, rows_planned, stop
 
 module _ (seen : Seen) (plan : Plan) (formed : IsWellFormed seen plan) (fit : NotesFit plan) where
   -- a source has changed exactly where a tree's root hash isn't the planned one
-  pub changes_at : {T : Type 0} (paths : List (List ℕ)) (files : List Stored) (first : List ℕ) (founds : List Found) (old new : List Made) (result : Result T ApplyFault)
+  pub changes_at : {T : Type 0} (paths : List (List ℕ)) (files : List Stored) (first : Past) (founds : List Found) (old new : List Made) (result : Result T ApplyFault)
       → MakesSteps plan (outside_of (Some files) paths (Some first)) (steps plan seen) founds old new result
       → length (held (history_of first old)) ≡ 512 * seen.sectors → ChangesAt plan (sources_in files paths) result
   changes_at paths files first founds old new (Ok value) makes long =

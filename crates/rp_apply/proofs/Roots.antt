@@ -10,7 +10,7 @@ use Rattle.rp_base.specs.declared.plan.Role.TheVariants.{Plain, Data, Hash}
 use Rattle.rp_base.specs.declared.seen.Seen.{Seen}
 use Rattle.rp_disk.specs.Calls.{all_done}
 use Rattle.rp_disk.specs.History.{held}
-use Rattle.rp_disk.specs.Made.{Made, dones, history_of}
+use Rattle.rp_disk.specs.Made.{Past, Made, dones, history_of}
 use Rattle.rp_io.specs.declared.stored.Stored.{Stored}
 use Rattle.rp_steps.specs.Contents.{Sources}
 use Rattle.rp_steps.specs.Steps.{byte_count, byte_of_slot, contents_steps, copy_phases, from_byte, growth, is_new, mbr_phases, new_rows, phase_of, phases, steps, synced, tree_steps, written_copies}
@@ -41,7 +41,7 @@ HasOtherThan plan sources planned copied (Tree data_at hash_at blocks salt uuid 
     (planned ≡ root) × (copied ≡ root_over plan sources data_at blocks salt) × (copied ≢ planned)
 HasOtherThan plan sources planned copied other = ⊥
 
-module _ (plan : Plan) (outside : Outside) (files : List Stored) (first : List ℕ) (told : outside.told ≡ Some files) (shows : outside.first ≡ Some first) where
+module _ (plan : Plan) (outside : Outside) (files : List Stored) (first : Past) (told : outside.told ≡ Some files) (shows : outside.first ≡ Some first) where
   abbrev sources : Sources
   sources = sources_in files outside.paths
 

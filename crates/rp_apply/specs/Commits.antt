@@ -6,7 +6,7 @@ use Rattle.rp_base.specs.declared.plan.Plan.{Plan}
 use Rattle.rp_base.specs.declared.plan.Role.{Role}
 use Rattle.rp_base.specs.declared.plan.Role.TheVariants.{Hash}
 use Rattle.rp_disk.specs.History.{IsSettled, LeftSince, moment, held}
-use Rattle.rp_disk.specs.Made.{Made, history_of, history_told}
+use Rattle.rp_disk.specs.Made.{Past, Made, history_of, history_told}
 use Rattle.rp_disk.specs.Runs.{Runs}
 use Rattle.rp_disk.specs.declared.call.Call.{Call}
 use Rattle.rp_gpt.specs.declared.table_fault.Empty.{Empty}
@@ -32,7 +32,7 @@ abbrev pub sources_of : Ready → List Stored → Sources
 sources_of ready files = sources_in files ready.paths
 
 -- the calls are those of the plan: at Ok all, else some first ones
-abbrev pub MakesPlanned : {T : Type 0} → Ready → List Stored → Option (List ℕ) → List Made → List Made → Result T ApplyFault → Type 0
+abbrev pub MakesPlanned : {T : Type 0} → Ready → List Stored → Option Past → List Made → List Made → Result T ApplyFault → Type 0
 MakesPlanned ready files first old new result = IfSome (history_told first old) (λ h.
     length (held h) ≡ 512 * ready.seen.sectors → Runs old (calls ready.plan ready.seen (sources_of ready files)) new result)
 
@@ -61,7 +61,7 @@ pub record ChangesAt {T : Type 0} (plan : Plan) (sources : Sources) (result : Re
   pub changed : IfErr result (λ fault. IfChanged fault (λ planned copied.
       Any (λ noted. HasOther plan sources planned copied noted.1.role) (noted_of plan)))
 
-abbrev pub ChangesAtRoots : {T : Type 0} → Ready → List Stored → Option (List ℕ) → List Made → Result T ApplyFault → Type 0
+abbrev pub ChangesAtRoots : {T : Type 0} → Ready → List Stored → Option Past → List Made → Result T ApplyFault → Type 0
 ChangesAtRoots ready files first old result = IfSome (history_told first old) (λ h.
     length (held h) ≡ 512 * ready.seen.sectors → ChangesAt ready.plan (sources_of ready files) result)
 
@@ -72,19 +72,19 @@ ShowsOther plan image planned copied (Hash partner blocks salt uuid root) =
 ShowsOther plan image planned copied other = ⊥
 
 -- where a source has changed, both hashes are told: the planned one, and that of the bytes that are shown
-abbrev pub TellsShown : {T : Type 0} → Ready → Option (List ℕ) → List Made → List Made → Result T ApplyFault → Type 0
+abbrev pub TellsShown : {T : Type 0} → Ready → Option Past → List Made → List Made → Result T ApplyFault → Type 0
 TellsShown ready first old new result = IfSome first (λ bytes.
     length (held (history_of bytes old)) ≡ 512 * ready.seen.sectors → IfErr result (λ fault. IfChanged fault (λ planned copied.
     Any (λ noted. ShowsOther ready.plan (held (history_of bytes new)) planned copied noted.1.role) (noted_of ready.plan))))
 
 -- where each tree is planned with its root hash and no count rises, the answer is Ok
-abbrev pub IsComplete : {T : Type 0} → Ready → List Stored → Option (List ℕ) → List Made → ℕ → ℕ → ℕ → ℕ → Result T ApplyFault → Type 0
+abbrev pub IsComplete : {T : Type 0} → Ready → List Stored → Option Past → List Made → ℕ → ℕ → ℕ → ℕ → Result T ApplyFault → Type 0
 IsComplete ready files first old disk_before disk_now sources_before sources_now result = IfSome (history_told first old) (λ h.
     length (held h) ≡ 512 * ready.seen.sectors → HavePlannedRoots ready.plan (sources_of ready files)
     → ¬ Rose disk_before disk_now → ¬ Rose sources_before sources_now → IsOk result)
 
 -- where the plan fits the image, and nothing was pending: the bytes shown are the final image, and nothing is pending
-abbrev pub EndsFinal : Ready → List Stored → Option (List ℕ) → List Made → List Made → Type 0
+abbrev pub EndsFinal : Ready → List Stored → Option Past → List Made → List Made → Type 0
 EndsFinal ready files first old new = IfSome first (λ bytes.
     (sector : ℕ) (empty : Empty) → IsPlanFor sector (held (history_of bytes old)) empty ready.seen ready.plan
     → IsSettled (history_of bytes old)
@@ -95,7 +95,7 @@ EndsFinal ready files first old new = IfSome first (λ bytes.
 -- where the plan fits the image, and nothing was pending: an image that a stop at any moment since might have left, and that
 -- has no torn header which passes its checksum by chance, shows the old table or the goal, and each old row holds its old bytes; where
 -- the sources tell, the new rows hold their contents where the goal is shown (the image is safe)
-abbrev pub AnyMomentIsSafe : Ready → Option (List Stored) → Option (List ℕ) → List Made → List Made → Type 0
+abbrev pub AnyMomentIsSafe : Ready → Option (List Stored) → Option Past → List Made → List Made → Type 0
 AnyMomentIsSafe ready told first old new = IfSome first (λ bytes.
     (sector : ℕ) (empty : Empty) → IsPlanFor sector (held (history_of bytes old)) empty ready.seen ready.plan
     → IsSettled (history_of bytes old)

@@ -8,7 +8,7 @@ use Rattle.rp_base.specs.declared.seen.Seen.{Seen}
 use Rattle.rp_defs.specs.declared.definition.Definition.{Definition}
 use Rattle.rp_disk.specs.Blocks.{flat}
 use Rattle.rp_disk.specs.History.{held}
-use Rattle.rp_disk.specs.Made.{history_of}
+use Rattle.rp_disk.specs.Made.{Past, history_of}
 use Rattle.rp_disk.specs.Runs.{MadeFirst}
 use Rattle.rp_disk.specs.declared.call.Call.{Call}
 use Rattle.rp_disk.specs.declared.call.Call.TheVariants.{Sync}
@@ -61,27 +61,27 @@ greatest a b le = grind arith
 
 -- a run on an idle image whose length isn't to grow
 module _ (request : Request) (list : List Definition) (disk later : Device) (sources : Store (List Stored)) (planned : Planned)
-    (calls : List Call) (bytes : List ℕ) (some : CarriesSome request list disk later sources planned calls) (tells : disk.first ≡ Some bytes)
-    (idle : IsIdle request.sector (held (history_of bytes disk.calls)) list request.seed)
-    (long : request.size ≤ length (held (history_of bytes disk.calls))) where
-  safe : StopsSafely request list disk later planned some.are.body bytes
-  safe = subst (λ o. IfSome o (StopsSafely request list disk later planned some.are.body)) tells some.stops
+    (past : Past) (calls : List Call) (some : CarriesSome request list disk later sources planned (Some past) calls)
+    (idle : IsIdle request.sector (held (history_of past disk.calls)) list request.seed)
+    (long : request.size ≤ length (held (history_of past disk.calls))) where
+  abbrev safe : StopsSafely request list disk later planned some.are.body past
+  safe = some.stops
 
   own_length : goal planned.seen planned.seen.sectors list safe.goal.0 request.seed ≡ Ok planned.plan
   own_length =
       let known = safe.goal.1 in
-      let len = (accepted-sized request.sector (held (history_of bytes disk.calls)) request.empty planned.seen known.of_sector known.seen_of).1.len in
+      let len = (accepted-sized request.sector (held (history_of past disk.calls)) request.empty planned.seen known.of_sector known.seen_of).1.len in
       let target : target_of request.size planned.seen ≡ planned.seen.sectors = greatest planned.seen.sectors (request.size / 512) (omega (arith, len, long)) in
       subst (λ t. goal planned.seen t list safe.goal.0 request.seed ≡ Ok planned.plan) target known.goal_is
 
   -- its plan has no steps, and each row is noted as the same
   pub none_to_do : (steps planned.plan planned.seen ≡ []) × All (λ (note : Note). note.change ≡ Same) planned.plan.notes
-  none_to_do = nothing_left request.sector (held (history_of bytes disk.calls)) list request.seed request.empty planned.seen safe.goal.0
+  none_to_do = nothing_left request.sector (held (history_of past disk.calls)) list request.seed request.empty planned.seen safe.goal.0
       planned.plan idle safe.goal.1.seen_of safe.goal.1.known own_length
 
   pub no_more : calls ≡ []
   no_more = none_alike planned.seen planned.plan calls
-      (no_calls request.sector (held (history_of bytes disk.calls)) list request.seed request.empty planned.seen safe.goal.0 planned.plan
+      (no_calls request.sector (held (history_of past disk.calls)) list request.seed request.empty planned.seen safe.goal.0 planned.plan
       no_sources idle safe.goal.1.seen_of safe.goal.1.known own_length) some.are
 
   pub made_no_more : MadeFirst disk.calls (Sync ∷ []) later.calls

@@ -13,13 +13,13 @@ use Rattle.rp_base.specs.declared.plan.Plan.{Plan}
 use Rattle.rp_base.specs.declared.seen.Seen.{Seen}
 use Rattle.rp_base.specs.declared.table.Row.{Row}
 use Rattle.rp_defs.specs.declared.definition.Definition.{Definition}
-use Rattle.rp_disk.specs.History.{History, held}
-use Rattle.rp_disk.specs.Made.{history_told}
+use Rattle.rp_disk.specs.History.{held}
+use Rattle.rp_disk.specs.Made.{history_of}
 use Rattle.rp_facts.specs.Sourced.{IsSourced}
 use Rattle.rp_facts.proofs.Wanted.{wanted_sourced}
 use Rattle.rp_gpt.specs.Shown.{accepted}
 use Rattle.rp_io.specs.declared.stored.Stored.{Stored}
-use Rattle.rp_outcome.specs.Device.{Device, history}
+use Rattle.rp_outcome.specs.Device.{Device}
 use Rattle.rp_outcome.specs.Refusals.{Refusal, disk_refusal, repair_refusal}
 use Rattle.rp_outcome.specs.Store.{Store}
 use Rattle.rp_plan.specs.Goal.{goal, notes_of}
@@ -130,18 +130,12 @@ module _ (request : Request) (list : List Definition) (disk later : Device) (sou
         named = goal_named k.seen list k.facts request.seed k.are (target_of request.size k.seen) planned.plan k.is;
       }
 
-  -- a disk that tells has the bytes that were seen
+  -- the disk has the bytes that were seen
   pub seen_length : PlansImage request list disk later sources drained (Ok planned) → HasSeenLength planned later
-  seen_length plans =
+  seen_length plans = λ past can.
       let k = known plans in
-      let at : IfSome (history disk) (λ h. length (held h) ≡ 512 * planned.seen.sectors) = by_history k (history disk) k.reads.settled in
-      subst (λ o. IfSome (history_told o later.calls) (λ h. length (held h) ≡ 512 * planned.seen.sectors)) (sym k.reads.only_read.first)
-      (subst (λ l. IfSome (history_told disk.first l) (λ h. length (held h) ≡ 512 * planned.seen.sectors)) (sym k.reads.only_read.calls) at) where
-        by_history : (k : Known) (o : Option History)
-            → IfSome o (λ h. Settles disk_refusal (seen_of request.sector request.empty (held h)) (Ok k.seen))
-            → IfSome o (λ h. length (held h) ≡ 512 * planned.seen.sectors)
-        by_history k None settles = tt
-        by_history k (Some h) settles =
-            let is = accepted_of (accepted request.sector (held h) request.empty) k.seen
-            (settled_ok disk_refusal (seen_of request.sector request.empty (held h)) k.seen settles) in
-            (accepted-sized request.sector (held h) request.empty k.seen of_sector is).1.len ∙ ap (λ (s : Seen). 512 * s.sectors) (sym k.same)
+      let image = held (history_of past disk.calls) in
+      let is = accepted_of (accepted request.sector image request.empty) k.seen
+      (settled_ok disk_refusal (seen_of request.sector request.empty image) k.seen (k.reads.settled past can)) in
+      subst (λ l. length (held (history_of past l)) ≡ 512 * planned.seen.sectors) (sym k.reads.only_read.calls)
+      ((accepted-sized request.sector image request.empty k.seen of_sector is).1.len ∙ ap (λ (s : Seen). 512 * s.sectors) (sym k.same))

@@ -7,12 +7,14 @@ use Rattle.rp_base.specs.declared.plan.Role.{Role}
 use Rattle.rp_base.specs.declared.plan.Role.TheVariants.{Plain, Data, Hash}
 use Rattle.rp_base.specs.declared.seen.Seen.{Seen}
 use Rattle.rp_defs.specs.declared.definition.Definitions.{Definitions}
-use Rattle.rp_disk.specs.History.{History, held}
-use Rattle.rp_disk.specs.Made.{Made, history_of, history_told}
+use Rattle.rp_disk.specs.Device.{Earlier, IsPossible, missed_by}
+use Rattle.rp_disk.specs.History.{held}
+use Rattle.rp_disk.specs.Made.{Made, Past, history_of, history_told}
 use Rattle.rp_disk.specs.Runs.{Runs}
 use Rattle.rp_disk.specs.declared.call.Call.{Call}
+use Rattle.rp_disk.proofs.Noting.{can_before, possible_before}
 use Rattle.rp_io.specs.declared.stored.Stored.{Stored}
-use Rattle.rp_outcome.specs.Device.{Device, history}
+use Rattle.rp_outcome.specs.Device.{Device}
 use Rattle.rp_outcome.specs.Refusals.{Refusal, changed_refusal, disk_refusal, source_refusal}
 use Rattle.rp_outcome.specs.Statuses as exit
 use Rattle.rp_outcome.specs.Store.{Store}
@@ -37,7 +39,7 @@ use Rattle.rp_apply.specs.declared.ready.Ready.{Ready}
 use Rattle.rp_apply.proofs.Anyhow.{are_calls_like}
 use Rattle.rp_apply.proofs.Judging.{changes_at}
 use Rattle.rp_apply.proofs.Laid.{laid}
-use Rattle.rp_apply_command.specs.Applies.{CarriesOut, HasCommitCauses, IsCommitRefusal, Outcome}
+use Rattle.rp_apply_command.specs.Applies.{CarriesOut, ForEachPast, HasCommitCauses, IsCommitRefusal, Outcome, RunsPlan}
 use Rattle.rp_apply_command.specs.Carrying.{HasSeenLength, HasToldRoots}
 use Rattle.rp_apply_command.proofs.Rooted.{root_of_row}
 
@@ -133,16 +135,13 @@ module _ (definitions : Definitions) (planned : Planned) (disk later : Device) (
   fit : NotesFit planned.plan
   fit = subst NotesFit is.plan_is is.ready_is.notes_fit
 
-  abbrev Makes : {T : Type 0} → List Found → Result T ApplyFault → Type 0
-  Makes founds result = MakesSteps planned.plan (outside_of sources.told (paths_of definitions.list) disk.first)
-      (steps planned.plan planned.seen) founds disk.calls later.calls result
-
-  refusal_is : {T : Type 0} (founds : List Found) (result : Result T ApplyFault) → Makes founds result
+  refusal_is : {T : Type 0} (o : Option Past) (founds : List Found) (result : Result T ApplyFault) → MakesSteps planned.plan
+      (outside_of sources.told (paths_of definitions.list) o) (steps planned.plan planned.seen) founds disk.calls later.calls result
       → IfErr (outcome_of result) (IsCommitRefusal planned)
-  refusal_is founds (Ok value) makes = tt
-  refusal_is founds (Err DiskFault) makes = inl refl
-  refusal_is founds (Err SourceFault) makes = inr (inl refl)
-  refusal_is founds (Err (SourceChanged root copied)) makes =
+  refusal_is o founds (Ok value) makes = tt
+  refusal_is o founds (Err DiskFault) makes = inl refl
+  refusal_is o founds (Err SourceFault) makes = inr (inl refl)
+  refusal_is o founds (Err (SourceChanged root copied)) makes =
       let other = root_of_row planned.seen planned.plan formed founds root copied disk.calls later.calls makes.changed in
       inr (inr (root, copied, refl, λ e. other.0 (sym e), other.1))
 
@@ -152,66 +151,70 @@ module _ (definitions : Definitions) (planned : Planned) (disk later : Device) (
       ≡ calls_for planned.plan planned.seen (sources_in files (paths_of definitions.list)))
       × IfErr (outcome_of result) (λ refusal. refusal.status ≢ exit.changed)
 
-  exact_is : {T : Type 0} (founds : List Found) (result : Result T ApplyFault) → Makes founds result
-      → IfSome (history disk) (λ h. IfSome sources.told (Exact founds result))
-  exact_is founds result makes = by disk.first sources.told makes long roots where
-    by : (o : Option (List ℕ)) (t : Option (List Stored))
-        → MakesSteps planned.plan (outside_of t (paths_of definitions.list) o) (steps planned.plan planned.seen) founds disk.calls
-        later.calls result
-        → IfSome (history_told o disk.calls) (λ h. length (held h) ≡ 512 * planned.seen.sectors)
-        → IfSome (history_told o disk.calls) (λ h. IfSome t (λ files.
-        HavePlannedRoots planned.plan (sources_in files (paths_of definitions.list))))
-        → IfSome (history_told o disk.calls) (λ h. IfSome t (Exact founds result))
-    by None t m l r = tt
-    by (Some bytes) None m l r = tt
-    by (Some bytes) (Some files) m l r =
+  exact_is : {T : Type 0} (o : Option Past) → IsPossible o disk → (founds : List Found) (result : Result T ApplyFault) → MakesSteps planned.plan
+      (outside_of sources.told (paths_of definitions.list) o) (steps planned.plan planned.seen) founds disk.calls later.calls result
+      → IfSome o (λ past. IfSome sources.told (Exact founds result))
+  exact_is None can founds result makes = tt
+  exact_is (Some past) can founds result makes = by sources.told makes (roots past can) where
+    by : (t : Option (List Stored)) → MakesSteps planned.plan (outside_of t (paths_of definitions.list) (Some past))
+        (steps planned.plan planned.seen) founds disk.calls later.calls result
+        → IfSome t (λ files. HavePlannedRoots planned.plan (sources_in files (paths_of definitions.list))) → IfSome t (Exact founds result)
+    by None m r = tt
+    by (Some files) m r =
         let from = sources_in files (paths_of definitions.list) in (
-          all_tied planned.plan (outside_of (Some files) (paths_of definitions.list) (Some bytes)) files bytes refl refl disk.calls founds
+          all_tied planned.plan (outside_of (Some files) (paths_of definitions.list) (Some past)) files past refl refl disk.calls founds
               (steps planned.plan planned.seen) m.found_are
-              (laid planned.plan from planned.seen formed fit (held (history_of bytes disk.calls)) l),
+              (laid planned.plan from planned.seen formed fit (held (history_of past disk.calls)) (long past can)),
           unchanged planned.plan from result
-              (changes_at planned.seen planned.plan formed fit (paths_of definitions.list) files bytes founds disk.calls later.calls result m l) r,
+              (changes_at planned.seen planned.plan formed fit (paths_of definitions.list) files past founds disk.calls later.calls result m
+              (long past can)) r,
         )
 
-  strays_are : IfSome (history disk) (λ h. length (held h) ≡ 512 * planned.seen.sectors → later.strays ≡ disk.strays)
-      → IfSome (history disk) (λ h. later.strays ≡ disk.strays)
-  strays_are stays = by (history disk) long stays where
-    by : (o : Option History) → IfSome o (λ h. length (held h) ≡ 512 * planned.seen.sectors)
-        → IfSome o (λ h. length (held h) ≡ 512 * planned.seen.sectors → later.strays ≡ disk.strays)
-        → IfSome o (λ h. later.strays ≡ disk.strays)
-    by None l s = tt
-    by (Some h) l s = s l
+  steps_are : ready.steps ≡ steps planned.plan planned.seen
+  steps_are = is.ready_is.steps ∙ ap (λ (p : Plan). steps p ready.seen) is.plan_is ∙ ap (λ (s : Seen). steps planned.plan s) is.seen_is
 
-  pub carries : {T : Type 0} (result : Result T ApplyFault) → later.first ≡ disk.first → drained.told ≡ sources.told
-      → (founds : List Found) × MakesSteps ready.plan (outside_of sources.told ready.paths disk.first) ready.steps founds disk.calls later.calls result
-      → HasDiskCause disk.faults later.faults result → HasSourceCause sources.faults drained.faults result
-      → IfSome (history disk) (λ h. length (held h) ≡ 512 * ready.seen.sectors → later.strays ≡ disk.strays)
-      → (calls : List Call) × CarriesOut definitions planned disk later sources drained calls (outcome_of result)
-  carries result first told made of_disk of_sources strays =
-      let founds = made.0 in
-      let steps_are : ready.steps ≡ steps planned.plan planned.seen =
-      is.ready_is.steps ∙ ap (λ (p : Plan). steps p ready.seen) is.plan_is ∙ ap (λ (s : Seen). steps planned.plan s) is.seen_is in
+  -- the steps that are ready are those of the plan
+  of_plan : {T : Type 0} (o : Option Past) (founds : List Found) (result : Result T ApplyFault)
+      → MakesSteps ready.plan (outside_of sources.told ready.paths o) ready.steps founds disk.calls later.calls result
+      → MakesSteps planned.plan (outside_of sources.told (paths_of definitions.list) o) (steps planned.plan planned.seen) founds disk.calls
+      later.calls result
+  of_plan o founds result makes =
       let P : Plan → List (List ℕ) → List Step → Type 0 =
-      λ p paths l. MakesSteps p (outside_of sources.told paths disk.first) l founds disk.calls later.calls result in
-      let makes : Makes founds result =
+      λ p paths l. MakesSteps p (outside_of sources.told paths o) l founds disk.calls later.calls result in
       subst (P planned.plan (paths_of definitions.list)) steps_are
       (subst (λ (paths : List (List ℕ)). P planned.plan paths ready.steps) is.paths_are
-      (subst (λ (p : Plan). P p ready.paths ready.steps) is.plan_is made.1)) in
-      let like = are_calls_like planned.plan (outside_of sources.told (paths_of definitions.list) disk.first) planned.seen formed fit
-      disk.calls founds makes.found_are in (
-        all_calls planned.plan founds (steps planned.plan planned.seen),
-        record {
-          first = first;
-          told = told;
-          are = like.0;
-          exact = exact_is founds result makes;
-          ran = runs_as disk.calls later.calls (all_calls planned.plan founds (steps planned.plan planned.seen)) result makes.ran;
-          strays = strays_are (subst (λ (s : Seen). IfSome (history disk) (λ h. length (held h) ≡ 512 * s.sectors → later.strays ≡ disk.strays))
-              is.seen_is strays);
-          refusal = refusal_is founds result makes;
-          cause = record {
-            of_disk = disk_cause disk.faults later.faults result of_disk;
-            of_sources = source_cause sources.faults drained.faults result of_sources;
-          };
-        },
-      )
+      (subst (λ (p : Plan). P p ready.paths ready.steps) is.plan_is makes))
+
+  runs_plan : {T : Type 0} (o : Option Past) → IsPossible o disk → (founds : List Found) (result : Result T ApplyFault) → MakesSteps planned.plan
+      (outside_of sources.told (paths_of definitions.list) o) (steps planned.plan planned.seen) founds disk.calls later.calls result
+      → RunsPlan definitions planned disk later sources (outcome_of result) o (all_calls planned.plan founds (steps planned.plan planned.seen))
+  runs_plan o can founds result makes = record {
+    are = (are_calls_like planned.plan (outside_of sources.told (paths_of definitions.list) o) planned.seen formed fit disk.calls founds
+        makes.found_are).0;
+    exact = exact_is o can founds result makes;
+    ran = runs_as disk.calls later.calls (all_calls planned.plan founds (steps planned.plan planned.seen)) result makes.ran;
+  }
+
+  pub carries : {T : Type 0} (result : Result T ApplyFault) → Earlier disk later → drained.told ≡ sources.told
+      → ForEachPast later (λ o. (founds : List Found)
+      × MakesSteps ready.plan (outside_of sources.told ready.paths o) ready.steps founds disk.calls later.calls result)
+      → HasDiskCause disk.faults later.faults result → HasSourceCause sources.faults drained.faults result
+      → ForEachPast later (λ o. IfSome (history_told o disk.calls)
+      (λ h. length (held h) ≡ 512 * ready.seen.sectors → missed_by o later.answers ≡ missed_by o disk.answers))
+      → CarriesOut definitions planned disk later sources drained (outcome_of result)
+  carries result earlier told made of_disk of_sources strays = record {
+    earlier = earlier;
+    told = told;
+    runs = λ o can.
+        let at = made o can in (
+          all_calls planned.plan at.0 (steps planned.plan planned.seen),
+          runs_plan o (possible_before o earlier can) at.0 result (of_plan o at.0 result at.1),
+        );
+    inside = λ past can. strays (Some past) can
+        (long past (can_before earlier can) ∙ ap (λ (s : Seen). 512 * s.sectors) (sym is.seen_is));
+    refusal = let at = made None tt in refusal_is None at.0 result (of_plan None at.0 result at.1);
+    cause = record {
+      of_disk = disk_cause disk.faults later.faults result of_disk;
+      of_sources = source_cause sources.faults drained.faults result of_sources;
+    };
+  }

@@ -4,12 +4,13 @@ use Rattle.std.specs.Prelude.{IsErrAnd}
 use Rattle.rp_base.specs.Faults.{Rose}
 use Rattle.rp_base.specs.Geometry.{IsSector}
 use Rattle.rp_defs.specs.declared.definition.Definitions.{Definitions}
+use Rattle.rp_disk.specs.Device.{CanHave, IsPossible}
 use Rattle.rp_disk.specs.History.{held}
-use Rattle.rp_disk.specs.Made.{Made, history_of, history_told}
+use Rattle.rp_disk.specs.Made.{Past, history_of, history_told}
 use Rattle.rp_disk.specs.declared.call.Call.{Call}
 use Rattle.rp_io.specs.Files.{Tree}
 use Rattle.rp_io.specs.declared.stored.Stored.{Stored}
-use Rattle.rp_outcome.specs.Device.{Device, history}
+use Rattle.rp_outcome.specs.Device.{Device}
 use Rattle.rp_outcome.specs.Output.{Output, Finishes, Prints}
 use Rattle.rp_outcome.specs.Refusals.{Refusal, disk_refusal, line_of}
 use Rattle.rp_outcome.specs.Statuses as exit
@@ -31,7 +32,7 @@ use Rattle.rp_apply_command.specs.Complete.{AnswersAsTold, HasReason, NoneFailed
 use Rattle.rp_apply_command.specs.Ends.{Ends, StopsExactly}
 use Rattle.rp_apply_command.specs.Ends.Ends.{before, behind, broken, between}
 use Rattle.rp_apply_command.proofs.Ended.{ends_so, not_before, not_between}
-use Rattle.rp_apply_command.proofs.Goals.{only_read, told_same}
+use Rattle.rp_apply_command.proofs.Goals.{told_same}
 use Rattle.rp_apply_command.proofs.Told.{refuses_so}
 
 -- no failed call was passed over by a stage that answered
@@ -42,8 +43,8 @@ kept_ok failure was now value cause = go cause.kept where
   go (inr same) = same
 
 module _ (request : Request) (json : Bool) (dirs : List (List ℕ)) (folders gone : Store Tree) (disk later : Device)
-    (sources drained : Store (List Stored)) (out after : Output) (status : ℕ) (bytes : List ℕ) (files : List Stored)
-    (tells : disk.first ≡ Some bytes) (told : sources.told ≡ Some files) where
+    (sources drained : Store (List Stored)) (out after : Output) (status : ℕ) (past : Past) (files : List Stored)
+    (can : CanHave past later) (told : sources.told ≡ Some files) where
   abbrev Why : Type 0
   Why = HasReason folders gone disk later sources drained out after status
 
@@ -73,7 +74,7 @@ module _ (request : Request) (json : Bool) (dirs : List (List ℕ)) (folders gon
     by_one (inr (inr (inr (inr (inr e))))) = inl (inr (inr (inr e)))
 
   module _ (definitions : Definitions) (reads : ReadsDefinitions request.arch dirs folders gone (Ok definitions)) (opened : Device)
-      (first : opened.first ≡ disk.first) (opened_kept : opened.faults ≡ disk.faults) (read : Device) (asked : Store (List Stored)) where
+      (opened_kept : opened.faults ≡ disk.faults) (read : Device) (asked : Store (List Stored)) where
     module _ (planned : Planned) (plans : PlansImage request definitions.list opened read sources asked (Ok planned)) where
       -- a sink that takes everything
       abbrev silent : Output
@@ -97,22 +98,20 @@ module _ (request : Request) (json : Bool) (dirs : List (List ℕ)) (folders gon
       Same refusal calls stored = (calls ≡ calls_for planned.plan planned.seen (sources_in stored (paths_of definitions.list)))
           × (refusal.status ≡ exit.changed → ⊥)
 
-      unchanged : (calls : List Call) (refusal : Refusal) → CarriesOut definitions planned read later asked drained calls (Err refusal)
+      unchanged : (refusal : Refusal) → CarriesOut definitions planned read later asked drained (Err refusal)
           → refusal.status ≡ exit.changed → ⊥
-      unchanged calls refusal carries =
-          let only = only_read request definitions.list opened read sources asked (Ok planned) plans in
-          let on_disk : IfSome asked.told (Same refusal calls) = subst (λ (o : Option (List ℕ)). IfSome (history_told o read.calls)
-          (λ h. IfSome asked.told (Same refusal calls))) (only.0 ∙ first ∙ tells) carries.exact in
-          (subst (λ (o : Option (List Stored)). IfSome o (Same refusal calls))
-          (told_same request definitions.list opened read sources asked planned plans ∙ told) on_disk).1
+      unchanged refusal carries =
+          let made = carries.runs (Some past) can in
+          (subst (λ (o : Option (List Stored)). IfSome o (Same refusal made.0))
+          (told_same request definitions.list opened read sources asked planned plans ∙ told) made.1.exact).1
 
-      by_commit : (calls : List Call) (answer : Outcome) → CarriesOut definitions planned read later asked drained calls answer
+      by_commit : (answer : Outcome) → CarriesOut definitions planned read later asked drained answer
           → Tells json definitions planned out after status answer → Why
-      by_commit calls (Ok done) carries finishes = go finishes where
+      by_commit (Ok done) carries finishes = go finishes where
         go : Finishes out after (applied_report json definitions planned) status → Why
         go (inl (e, printed)) = inr (inl e)
         go (inr (e, printed)) = inr (inr (inr (inr (e, printed.rose))))
-      by_commit calls (Err refusal) carries refuses = go carries.refusal where
+      by_commit (Err refusal) carries refuses = go carries.refusal where
         go : IsCommitRefusal planned refusal → Why
         go (inl failed) = inr (inr (inl (
           refuses.answers ∙ ap (λ (r : Refusal). r.status) failed,
@@ -122,42 +121,41 @@ module _ (request : Request) (json : Bool) (dirs : List (List ℕ)) (folders gon
           refuses.answers ∙ ap (λ (r : Refusal). r.status) failed,
           inr (subst (λ (n : ℕ). Rose n drained.faults) asked_kept (carries.cause.of_sources.failed (ap Err failed))),
         ))))
-        go (inr (inr changed)) = absurd (unchanged calls refusal carries (ap (λ (r : Refusal). r.status) changed.2))
+        go (inr (inr changed)) = absurd (unchanged refusal carries (ap (λ (r : Refusal). r.status) changed.2))
 
-    by_plan : (calls : List Call) (answer : Result Planned Refusal) → PlansImage request definitions.list opened read sources asked answer
-        → AppliesPlanned json definitions read later asked drained out after status calls answer → Why
-    by_plan calls (Err refusal) plans (same, same_sources, none, refuses) =
+    by_plan : (answer : Result Planned Refusal) → PlansImage request definitions.list opened read sources asked answer
+        → AppliesPlanned json definitions read later asked drained out after status answer → Why
+    by_plan (Err refusal) plans (same, same_sources, refuses) =
         as_plan opened read asked opened_kept same same_sources (Ok definitions, reads, (Err refusal, plans, refuses))
-    by_plan calls (Ok planned) plans (inl (same, same_sources, none, refuses)) =
+    by_plan (Ok planned) plans (inl (same, same_sources, refuses)) =
         as_plan opened read asked opened_kept same same_sources (Ok definitions, reads, (Ok planned, plans, inr refuses))
-    by_plan calls (Ok planned) plans (inr (answer, carries, tells)) = by_commit planned plans calls answer carries tells
+    by_plan (Ok planned) plans (inr (answer, carries, tells)) = by_commit planned plans answer carries tells
 
   by_opening : (definitions : Definitions) → ReadsDefinitions request.arch dirs folders gone (Ok definitions) → (opened : Device)
-      (calls : List Call) (answer : Outcome) → Opens disk opened answer
-      → AppliesOpened request json definitions opened later sources drained out after status calls answer → Why
-  by_opening definitions reads opened calls (Err refusal) opens (same, same_sources, none, refuses) = inr (inr (inl (
+      (answer : Outcome) → Opens disk opened answer
+      → AppliesOpened request json definitions opened later sources drained out after status answer → Why
+  by_opening definitions reads opened (Err refusal) opens (same, same_sources, refuses) = inr (inr (inl (
     refuses.answers ∙ ap (λ (r : Refusal). r.status) opens.refusal,
     subst (λ (d : Device). Rose disk.faults d.faults) (sym same) (opens.cause.failed (ap Err opens.refusal)),
   )))
-  by_opening definitions reads opened calls (Ok done) opens (read, asked, answer, plans, fits, applies) =
-      by_plan definitions reads opened opens.first (kept_ok disk_refusal disk.faults opened.faults done opens.cause) read asked calls answer
-      plans applies
+  by_opening definitions reads opened (Ok done) opens (read, asked, answer, plans, fits, applies) =
+      by_plan definitions reads opened (kept_ok disk_refusal disk.faults opened.faults done opens.cause) read asked answer plans applies
 
-  by_definitions : (calls : List Call) (answer : Result Definitions Refusal) → ReadsDefinitions request.arch dirs folders gone answer
-      → AppliesBehind request json disk later sources drained out after status calls answer → Why
-  by_definitions calls (Err refusal) reads (same, same_sources, none, refuses) =
+  by_definitions : (answer : Result Definitions Refusal) → ReadsDefinitions request.arch dirs folders gone answer
+      → AppliesBehind request json disk later sources drained out after status answer → Why
+  by_definitions (Err refusal) reads (same, same_sources, refuses) =
       as_plan disk disk sources refl same same_sources (Err refusal, reads, (refl, refl, refuses))
-  by_definitions calls (Ok definitions) reads (opened, answer, opens, applies) = by_opening definitions reads opened calls answer opens applies
+  by_definitions (Ok definitions) reads (opened, answer, opens, applies) = by_opening definitions reads opened answer opens applies
 
 -- why it ends so
 pub has_reason : (request : Request) (json : Bool) (dirs : List (List ℕ)) (folders gone : Store Tree) (disk later : Device)
     (sources drained : Store (List Stored)) (out after : Output) (status : ℕ)
     → Applies request json dirs folders gone disk later sources drained out after status
-    → (bytes : List ℕ) (files : List Stored) → disk.first ≡ Some bytes → sources.told ≡ Some files
+    → (past : Past) (files : List Stored) → CanHave past later → sources.told ≡ Some files
     → HasReason folders gone disk later sources drained out after status
-has_reason request json dirs folders gone disk later sources drained out after status applies bytes files tells told =
-    by_definitions request json dirs folders gone disk later sources drained out after status bytes files tells told applies.0
-    applies.1.0 applies.1.1 applies.1.2
+has_reason request json dirs folders gone disk later sources drained out after status applies past files can told =
+    by_definitions request json dirs folders gone disk later sources drained out after status past files can told applies.0
+    applies.1 applies.2
 
 -- what is told where the run is done
 done_told : (request : Request) (dirs : List (List ℕ)) (tree : Tree) (image : List ℕ) (files : List Stored) (definitions : Definitions)
@@ -177,40 +175,40 @@ as_wanted : (status : ℕ) (answer : Result (Definitions × Planned) Refusal) �
 as_wanted status (Ok told) want = inr want
 as_wanted status (Err refusal) want = inr want
 
--- what holds of what all tell
-at_told : (folders : Store Tree) (disk : Device) (sources : Store (List Stored)) (P : Tree → List ℕ → List Stored → Type 0) (tree : Tree)
-    (bytes : List ℕ) (files : List Stored) → folders.told ≡ Some tree → disk.first ≡ Some bytes → sources.told ≡ Some files
-    → WhereTold folders disk sources P → P tree (held (history_of bytes disk.calls)) files
-at_told folders disk sources P tree bytes files listed tells told holds =
-    let of_tree = subst (λ (o : Option Tree). IfSome o (λ tree. IfSome (history disk) (λ h. IfSome sources.told (P tree (held h))))) listed holds in
-    let of_disk : IfSome sources.told (P tree (held (history_of bytes disk.calls))) =
-    subst (λ (o : Option (List ℕ)). IfSome (history_told o disk.calls) (λ h. IfSome sources.told (P tree (held h)))) tells of_tree in
-    subst (λ (o : Option (List Stored)). IfSome o (P tree (held (history_of bytes disk.calls)))) told of_disk
+-- what holds of what all tell, and of a past of the disk
+at_told : (folders : Store Tree) (disk later : Device) (sources : Store (List Stored)) (P : Tree → List ℕ → List Stored → Type 0) (tree : Tree)
+    (past : Past) (files : List Stored) → folders.told ≡ Some tree → CanHave past later → sources.told ≡ Some files
+    → WhereTold folders disk later sources P → P tree (held (history_of past disk.calls)) files
+at_told folders disk later sources P tree past files listed can told holds =
+    subst (λ (o : Option (List Stored)). IfSome o (P tree (held (history_of past disk.calls)))) told
+    (subst (λ (o : Option Tree). IfSome o (λ tree. IfSome sources.told (P tree (held (history_of past disk.calls))))) listed (holds (Some past) can))
 
-where_all : (calls : List Made) (P : Tree → List ℕ → List Stored → Type 0) (o : Option Tree) (p : Option (List ℕ)) (q : Option (List Stored))
-    → ((tree : Tree) (bytes : List ℕ) (files : List Stored) → o ≡ Some tree → p ≡ Some bytes → q ≡ Some files
-    → P tree (held (history_of bytes calls)) files)
-    → IfSome o (λ tree. IfSome (history_told p calls) (λ h. IfSome q (P tree (held h))))
-where_all calls P None p q each = tt
-where_all calls P (Some tree) None q each = tt
-where_all calls P (Some tree) (Some bytes) None each = tt
-where_all calls P (Some tree) (Some bytes) (Some files) each = each tree bytes files refl refl refl
+where_all : (folders : Store Tree) (disk later : Device) (sources : Store (List Stored)) (P : Tree → List ℕ → List Stored → Type 0)
+    → ((tree : Tree) (past : Past) (files : List Stored) → folders.told ≡ Some tree → CanHave past later → sources.told ≡ Some files
+    → P tree (held (history_of past disk.calls)) files) → WhereTold folders disk later sources P
+where_all folders disk later sources P each o can = by folders.told o sources.told refl can refl where
+  by : (t : Option Tree) (o : Option Past) (q : Option (List Stored)) → folders.told ≡ t → IsPossible o later → sources.told ≡ q
+      → IfSome t (λ tree. IfSome (history_told o disk.calls) (λ h. IfSome q (P tree (held h))))
+  by None o q listed can told = tt
+  by (Some tree) None q listed can told = tt
+  by (Some tree) (Some past) None listed can told = tt
+  by (Some tree) (Some past) (Some files) listed can told = each tree past files listed can told
 
 module _ (request : Request) (json : Bool) (dirs : List (List ℕ)) (folders gone : Store Tree) (disk later : Device)
     (sources drained : Store (List Stored)) (out after : Output) (status : ℕ) (of_sector : IsSector request.sector)
     (whole : request.size % 4096 ≡ 0) (most : request.size ≤ 2 ^ 44)
     (applies : Applies request json dirs folders gone disk later sources drained out after status)
     (none : NoneFailed folders gone disk later sources drained out after) where
-  module _ (tree : Tree) (bytes : List ℕ) (files : List Stored) (listed : folders.told ≡ Some tree) (tells : disk.first ≡ Some bytes)
+  module _ (tree : Tree) (past : Past) (files : List Stored) (listed : folders.told ≡ Some tree) (can : CanHave past later)
       (told : sources.told ≡ Some files) where
     abbrev Answers : Type 0
-    Answers = AnswersAsTold status (told_plan request dirs tree (held (history_of bytes disk.calls)) files)
+    Answers = AnswersAsTold status (told_plan request dirs tree (held (history_of past disk.calls)) files)
 
     refused : (status ≡ 3) ⊎ (status ≡ 4) ⊎ (status ≡ 5) → Answers
     refused is = as_refused status (λ refusal. Prints out after (line_of refusal))
-        (told_plan request dirs tree (held (history_of bytes disk.calls)) files)
-        (at_told folders disk sources (λ tree image files. IsErrAnd (told_plan request dirs tree image files)
-        (λ refusal. (refusal.status ≡ status) × Prints out after (line_of refusal))) tree bytes files listed tells told
+        (told_plan request dirs tree (held (history_of past disk.calls)) files)
+        (at_told folders disk later sources (λ tree image files. IsErrAnd (told_plan request dirs tree image files)
+        (λ refusal. (refusal.status ≡ status) × Prints out after (line_of refusal))) tree past files listed can told
         (refuses_so request json dirs folders gone disk later sources drained out after status applies is))
 
     done : status ≡ exit.done → Answers
@@ -219,23 +217,22 @@ module _ (request : Request) (json : Bool) (dirs : List (List ℕ)) (folders gon
           by_end : Ends request json dirs folders disk later sources out after status → Answers
           by_end (before at leaves) = not_before status at is
           by_end (broken at leaves) = not_between status at is
-          by_end (between at definitions planned calls read some refusal cause refuses) = not_between status at is
-          by_end (behind at definitions planned calls read all finishes) =
+          by_end (between at definitions planned read some refusal cause refuses) = not_between status at is
+          by_end (behind at definitions planned read all finishes) =
               let by_folders : definitions_in request.arch tree dirs ≡ Ok definitions =
               subst (λ (o : Option Tree). IfSome o (λ tree. definitions_in request.arch tree dirs ≡ Ok definitions)) listed read.told in
-              let by_disk : IfSome sources.told (StopsExactly request definitions.list disk later planned calls bytes) =
-              subst (λ (o : Option (List ℕ)). IfSome o (λ bytes. IfSome sources.told
-              (StopsExactly request definitions.list disk later planned calls bytes))) tells all.some.stops_exactly in
-              let exactly : StopsExactly request definitions.list disk later planned calls bytes files =
-              subst (λ (o : Option (List Stored)). IfSome o (StopsExactly request definitions.list disk later planned calls bytes)) told by_disk in
-              subst (AnswersAsTold status) (sym (done_told request dirs tree (held (history_of bytes disk.calls)) files definitions planned
+              let made = all (Some past) can in
+              let exactly : StopsExactly request definitions.list disk later planned made.0 past files =
+              subst (λ (o : Option (List Stored)). IfSome o (StopsExactly request definitions.list disk later planned made.0 past)) told
+              made.1.some.stops_exactly in
+              subst (AnswersAsTold status) (sym (done_told request dirs tree (held (history_of past disk.calls)) files definitions planned
               by_folders exactly.goal)) (inl is)
 
     by_reason : HasReason folders gone disk later sources drained out after status → Answers
     by_reason (inl (inl e)) = refused (inl e)
     by_reason (inl (inr (inl e))) = refused (inr (inl e))
     by_reason (inl (inr (inr (inl e)))) = refused (inr (inr e))
-    by_reason (inl (inr (inr (inr e)))) = as_wanted status (told_plan request dirs tree (held (history_of bytes disk.calls)) files) e
+    by_reason (inl (inr (inr (inr e)))) = as_wanted status (told_plan request dirs tree (held (history_of past disk.calls)) files) e
     by_reason (inr (inl e)) = done e
     by_reason (inr (inr (inl (e, rose)))) = absurd (none.by_disk rose)
     by_reason (inr (inr (inr (inl (e, inl rose))))) = absurd (none.by_folders rose)
@@ -243,8 +240,8 @@ module _ (request : Request) (json : Bool) (dirs : List (List ℕ)) (folders gon
     by_reason (inr (inr (inr (inr (e, rose))))) = absurd (none.by_sink rose)
 
   -- where no call failed, the answer is that of what is told
-  pub answers_told : WhereTold folders disk sources (λ tree image files. AnswersAsTold status (told_plan request dirs tree image files))
-  answers_told = where_all disk.calls (λ tree image files. AnswersAsTold status (told_plan request dirs tree image files))
-      folders.told disk.first sources.told (λ tree bytes files listed tells told.
-      by_reason tree bytes files listed tells told
-      (has_reason request json dirs folders gone disk later sources drained out after status applies bytes files tells told))
+  pub answers_told : WhereTold folders disk later sources (λ tree image files. AnswersAsTold status (told_plan request dirs tree image files))
+  answers_told = where_all folders disk later sources (λ tree image files. AnswersAsTold status (told_plan request dirs tree image files))
+      (λ tree past files listed can told.
+      by_reason tree past files listed can told
+      (has_reason request json dirs folders gone disk later sources drained out after status applies past files can told))

@@ -6,10 +6,10 @@ use Rattle.rp_base.specs.Geometry.{IsSector}
 use Rattle.rp_base.specs.declared.plan.Change.TheVariants.{Same}
 use Rattle.rp_base.specs.declared.plan.Note.{Note}
 use Rattle.rp_defs.specs.declared.definition.Definitions.{Definitions}
+use Rattle.rp_disk.specs.Device.{CanHave}
 use Rattle.rp_disk.specs.History.{held}
-use Rattle.rp_disk.specs.Made.{dones, history_of}
+use Rattle.rp_disk.specs.Made.{Past, dones, history_of}
 use Rattle.rp_disk.specs.Runs.{MadeFirst}
-use Rattle.rp_disk.specs.declared.call.Call.{Call}
 use Rattle.rp_disk.specs.declared.call.Call.TheVariants.{Sync}
 use Rattle.rp_disk.proofs.Runs.{made_first}
 use Rattle.rp_io.specs.Files.{Tree}
@@ -32,7 +32,7 @@ use Rattle.rp_apply_command.specs.Applies.{Applies, AppliesBehind, AppliesOpened
 use Rattle.rp_apply_command.specs.Ends.{AreRead, Ends, IsBefore, IsBehind, IsBetween, LeavesAll, TellsUnchanged}
 use Rattle.rp_apply_command.specs.Ends.Ends.{before, behind, broken, between}
 use Rattle.rp_apply_command.proofs.Again.{made_no_more, none_to_do}
-use Rattle.rp_apply_command.proofs.Goals.{IsRefused, none_planned, only_read, settled_ok}
+use Rattle.rp_apply_command.proofs.Goals.{IsRefused, none_planned, settled_ok}
 use Rattle.rp_apply_command.proofs.Moments.{carries_all, carries_some, leaves_all}
 use Rattle.rp_apply_command.proofs.Runs.{made_none, made_sync}
 
@@ -73,53 +73,51 @@ module _ (request : Request) (json : Bool) (dirs : List (List ℕ)) (folders : S
   refused_so refusal (inl is) refuses leaves = before (subst IsBefore (sym refuses.answers) is) leaves
   refused_so refusal (inr is) refuses leaves = broken (subst IsBetween (sym refuses.answers) is) leaves
 
-  ended_at : (mid : Device) (left drained : Store (List Stored)) (refusal : Refusal) (calls : List Call)
+  ended_at : (mid : Device) (left drained : Store (List Stored)) (refusal : Refusal)
       → MadeFirst disk.calls (Sync ∷ []) mid.calls → IsRefused refusal
-      → EndsHere mid later left drained out after status refusal calls → End
-  ended_at mid left drained refusal calls made is here =
-      refused_so refusal is here.3 (leaves_all disk later
+      → EndsHere mid later left drained out after status refusal → End
+  ended_at mid left drained refusal made is here =
+      refused_so refusal is here.2 (leaves_all disk later
       (subst (λ (d : Device). MadeFirst disk.calls (Sync ∷ []) d.calls) (sym here.0) made))
 
   module _ (definitions : Definitions) (are : AreRead request dirs folders definitions) (opened : Device)
-      (first : opened.first ≡ disk.first) (synced : opened.calls ≡ disk.calls ++ dones (Sync ∷ [])) (drained : Store (List Stored))
-      (calls : List Call) where
+      (synced : opened.calls ≡ disk.calls ++ dones (Sync ∷ [])) (drained : Store (List Stored)) where
     committed : (read : Device) (asked : Store (List Stored)) (planned : Planned)
         → PlansImage request definitions.list opened read sources asked (Ok planned) → PlanFits planned → (answer : Outcome)
-        → CarriesOut definitions planned read later asked drained calls answer
+        → CarriesOut definitions planned read later asked drained answer
         → Tells json definitions planned out after status answer → End
     committed read asked planned plans fits (Ok done) carries tells =
-        behind (finished out after (applied_report json definitions planned) status tells) definitions planned calls are
-        (carries_all request definitions disk opened read later sources asked drained planned calls (Ok done) of_sector whole most
-        are.formed fits first synced plans carries carries.ran.ok) tells
+        behind (finished out after (applied_report json definitions planned) status tells) definitions planned are
+        (carries_all request definitions disk opened read later sources asked drained planned of_sector whole most are.formed fits synced
+        plans carries) tells
     committed read asked planned plans fits (Err refusal) carries tells =
-        between (subst IsBetween (sym tells.answers) (is_commit planned refusal carries.refusal)) definitions planned calls are
-        (carries_some request definitions disk opened read later sources asked drained planned calls (Err refusal) of_sector whole most
-        are.formed fits first synced plans carries) refusal carries.refusal tells
+        between (subst IsBetween (sym tells.answers) (is_commit planned refusal carries.refusal)) definitions planned are
+        (carries_some request definitions disk opened read later sources asked drained planned (Err refusal) of_sector whole most
+        are.formed fits synced plans carries) refusal carries.refusal tells
 
     made_by : (read : Device) (asked : Store (List Stored)) (answer : Result Planned Refusal)
         → PlansImage request definitions.list opened read sources asked answer → MadeFirst disk.calls (Sync ∷ []) read.calls
     made_by read asked answer plans =
-        made_sync disk.calls read.calls ((only_read request definitions.list opened read sources asked answer plans).1 ∙ synced)
+        made_sync disk.calls read.calls (plans.1.only_read.calls ∙ synced)
 
     by_plan : (read : Device) (asked : Store (List Stored)) (answer : Result Planned Refusal)
         → PlansImage request definitions.list opened read sources asked answer → IfOk answer PlanFits
-        → AppliesPlanned json definitions read later asked drained out after status calls answer → End
+        → AppliesPlanned json definitions read later asked drained out after status answer → End
     by_plan read asked (Err refusal) plans fits here =
-        ended_at read asked drained refusal calls (made_by read asked (Err refusal) plans)
+        ended_at read asked drained refusal (made_by read asked (Err refusal) plans)
         (none_planned request definitions.list opened read sources asked refusal plans) here
     by_plan read asked (Ok planned) plans fits (inl here) =
-        ended_at read asked drained memory_refusal calls (made_by read asked (Ok planned) plans) (inl (inr (inr (inr refl)))) here
+        ended_at read asked drained memory_refusal (made_by read asked (Ok planned) plans) (inl (inr (inr (inr refl)))) here
     by_plan read asked (Ok planned) plans fits (inr commits) = committed read asked planned plans fits commits.0 commits.1 commits.2
 
   by_opening : (definitions : Definitions) → AreRead request dirs folders definitions → (opened : Device) (drained : Store (List Stored))
-      (calls : List Call) (answer : Outcome) → Opens disk opened answer
-      → AppliesOpened request json definitions opened later sources drained out after status calls answer
-      → End
-  by_opening definitions are opened drained calls (Err refusal) opens here =
-      ended_at opened sources drained refusal calls (made_first {T = Unit {0}} {E = Refusal} (Err refusal) disk.calls opened.calls (Sync ∷ []) opens.ran)
+      (answer : Outcome) → Opens disk opened answer
+      → AppliesOpened request json definitions opened later sources drained out after status answer → End
+  by_opening definitions are opened drained (Err refusal) opens here =
+      ended_at opened sources drained refusal (made_first {T = Unit {0}} {E = Refusal} (Err refusal) disk.calls opened.calls (Sync ∷ []) opens.ran)
       (inr (inl (ap (λ (r : Refusal). r.status) opens.refusal))) here
-  by_opening definitions are opened drained calls (Ok done) opens plans =
-      by_plan definitions are opened opens.first opens.ran.ok drained calls plans.0 plans.1 plans.2 plans.3 plans.4 plans.5
+  by_opening definitions are opened drained (Ok done) opens plans =
+      by_plan definitions are opened opens.ran.ok drained plans.0 plans.1 plans.2 plans.3 plans.4 plans.5
 
   -- the definitions were read
   read_so : (definitions : Definitions) (read : Store Tree) → ReadsDefinitions request.arch dirs folders read (Ok definitions)
@@ -130,13 +128,13 @@ module _ (request : Request) (json : Bool) (dirs : List (List ℕ)) (folders : S
     by_told None settles = tt
     by_told (Some tree) settles = settled_ok folder_refusal (definitions_in request.arch tree dirs) definitions settles
 
-  by_definitions : (read : Store Tree) (drained : Store (List Stored)) (calls : List Call)
+  by_definitions : (read : Store Tree) (drained : Store (List Stored))
       (answer : Result Definitions Refusal) → ReadsDefinitions request.arch dirs folders read answer
-      → AppliesBehind request json disk later sources drained out after status calls answer → End
-  by_definitions read drained calls (Err refusal) reads here =
-      ended_at disk sources drained refusal calls (made_none disk.calls (Sync ∷ [])) (is_reading refusal reads.refusal) here
-  by_definitions read drained calls (Ok definitions) reads opens =
-      by_opening definitions (read_so definitions read reads) opens.0 drained calls opens.1 opens.2 opens.3
+      → AppliesBehind request json disk later sources drained out after status answer → End
+  by_definitions read drained (Err refusal) reads here =
+      ended_at disk sources drained refusal (made_none disk.calls (Sync ∷ [])) (is_reading refusal reads.refusal) here
+  by_definitions read drained (Ok definitions) reads opens =
+      by_opening definitions (read_so definitions read reads) opens.0 drained opens.1 opens.2 opens.3
 
 -- how it ends
 pub ends_so : (request : Request) (json : Bool) (dirs : List (List ℕ)) (folders read : Store Tree) (disk later : Device)
@@ -145,18 +143,18 @@ pub ends_so : (request : Request) (json : Bool) (dirs : List (List ℕ)) (folder
     → Applies request json dirs folders read disk later sources drained out after status
     → Ends request json dirs folders disk later sources out after status
 ends_so request json dirs folders read disk later sources drained out after status of_sector whole most applies =
-    by_definitions request json dirs folders disk later sources out after status of_sector whole most read drained applies.0 applies.1.0
-    applies.1.1 applies.1.2
+    by_definitions request json dirs folders disk later sources out after status of_sector whole most read drained applies.0
+    applies.1 applies.2
 
 -- on an idle image
 module _ (request : Request) (json : Bool) (dirs : List (List ℕ)) (folders read : Store Tree) (disk later : Device)
     (sources drained : Store (List Stored)) (out after : Output) (status : ℕ) (of_sector : IsSector request.sector)
     (whole : request.size % 4096 ≡ 0) (most : request.size ≤ 2 ^ 44)
-    (applies : Applies request json dirs folders read disk later sources drained out after status) (bytes : List ℕ) (tree : Tree)
-    (definitions : Definitions) (tells : disk.first ≡ Some bytes) (told : folders.told ≡ Some tree)
+    (applies : Applies request json dirs folders read disk later sources drained out after status) (past : Past) (tree : Tree)
+    (definitions : Definitions) (can : CanHave past later) (told : folders.told ≡ Some tree)
     (are : definitions_in request.arch tree dirs ≡ Ok definitions)
-    (idle : IsIdle request.sector (held (history_of bytes disk.calls)) definitions.list request.seed)
-    (long : request.size ≤ length (held (history_of bytes disk.calls))) where
+    (idle : IsIdle request.sector (held (history_of past disk.calls)) definitions.list request.seed)
+    (long : request.size ≤ length (held (history_of past disk.calls))) where
   same_ok : (a b : Definitions) → ◌≡◌ {A = Result Definitions Refusal} (Ok a) (Ok b) → a ≡ b
   same_ok a b e = cc
 
@@ -167,8 +165,8 @@ module _ (request : Request) (json : Bool) (dirs : List (List ℕ)) (folders rea
       same_ok definitions others (sym are ∙ found)
 
   idle_for : (others : Definitions) → AreRead request dirs folders others
-      → IsIdle request.sector (held (history_of bytes disk.calls)) others.list request.seed
-  idle_for others read_so = subst (λ (d : Definitions). IsIdle request.sector (held (history_of bytes disk.calls)) d.list request.seed)
+      → IsIdle request.sector (held (history_of past disk.calls)) others.list request.seed
+  idle_for others read_so = subst (λ (d : Definitions). IsIdle request.sector (held (history_of past disk.calls)) d.list request.seed)
       (same_read others read_so) idle
 
   -- at every status no call was made but the sync
@@ -177,10 +175,12 @@ module _ (request : Request) (json : Bool) (dirs : List (List ℕ)) (folders rea
     by_end : Ends request json dirs folders disk later sources out after status → MadeFirst disk.calls (Sync ∷ []) later.calls
     by_end (before is leaves) = leaves.made
     by_end (broken is leaves) = leaves.made
-    by_end (behind is others planned calls read_so all finishes) =
-        made_no_more request others.list disk later sources planned calls bytes all.some tells (idle_for others read_so) long
-    by_end (between is others planned calls read_so some refusal cause refuses) =
-        made_no_more request others.list disk later sources planned calls bytes some tells (idle_for others read_so) long
+    by_end (behind is others planned read_so all finishes) =
+        let made = all (Some past) can in
+        made_no_more request others.list disk later sources planned past made.0 made.1.some (idle_for others read_so) long
+    by_end (between is others planned read_so some refusal cause refuses) =
+        let made = some (Some past) can in
+        made_no_more request others.list disk later sources planned past made.0 made.1 (idle_for others read_so) long
 
   -- where it is done, it tells no step and no change
   pub tells_idle : status ≡ exit.done → TellsUnchanged json definitions out after
@@ -188,10 +188,11 @@ module _ (request : Request) (json : Bool) (dirs : List (List ℕ)) (folders rea
     by_end : Ends request json dirs folders disk later sources out after status → TellsUnchanged json definitions out after
     by_end (before is leaves) = not_before status is done
     by_end (broken is leaves) = not_between status is done
-    by_end (between is others planned calls read_so some refusal cause refuses) = not_between status is done
-    by_end (behind is others planned calls read_so all finishes) = by_text finishes where
+    by_end (between is others planned read_so some refusal cause refuses) = not_between status is done
+    by_end (behind is others planned read_so all finishes) = by_text finishes where
       none : (steps planned.plan planned.seen ≡ []) × All (λ (note : Note). note.change ≡ Same) planned.plan.notes
-      none = none_to_do request others.list disk later sources planned calls bytes all.some tells (idle_for others read_so) long
+      none = none_to_do request others.list disk later sources planned past (all (Some past) can).0 (all (Some past) can).1.some
+          (idle_for others read_so) long
 
       text : applied_report json others planned ≡ plan_report json planned.plan definitions 0 0 true None
       text = ap (λ (ss : List Step). plan_report json planned.plan others (length ss) (writes ss) true None) none.0

@@ -11,13 +11,15 @@ use Rattle.rp_defs.specs.WellFormed.{IsWellFormed}
 use Rattle.rp_defs.specs.declared.definition.Definition.{Definition}
 use Rattle.rp_demand.specs.declared.demand.Demand.{Demand}
 use Rattle.rp_demand.specs.declared.demand.Demand.TheVariants as demands
-use Rattle.rp_disk.specs.History.{History, held}
+use Rattle.rp_disk.specs.Device.{Known}
+use Rattle.rp_disk.specs.History.{held}
+use Rattle.rp_disk.specs.Made.{history_of}
 use Rattle.rp_gpt.specs.Shown.{accepted}
 use Rattle.rp_gpt.specs.declared.table_fault.TableFault.{TableFault}
 use Rattle.rp_idle.specs.Idle.{IsPlanned}
 use Rattle.rp_io.specs.declared.stored.Stored.{Stored}
 use Rattle.rp_outcome.specs.Demands.{demand_refusal}
-use Rattle.rp_outcome.specs.Device.{Device, history}
+use Rattle.rp_outcome.specs.Device.{Device}
 use Rattle.rp_outcome.specs.Refusals.{Refusal, disk_refusal, memory_refusal, repair_refusal, source_refusal, table_refusal}
 use Rattle.rp_outcome.specs.Store.{Store}
 use Rattle.rp_plan.specs.Goal.{goal}
@@ -68,34 +70,30 @@ module _ (request : Request) (list : List Definition) (disk later : Device) (sou
     (of_sector : IsSector request.sector) (whole : request.size % 4096 ≡ 0) (most : request.size ≤ 2 ^ 44) (formed : IsWellFormed list)
     (fits : PlanFits planned) where
   abbrev Goal : Type 0
-  Goal = IfSome (history disk) (λ h. IsGoalOf request list (held h) planned)
+  Goal = Known disk later (λ h. IsGoalOf request list (held h) planned)
 
   goal_at : (seen : Seen) (facts : List Fact) → ReadsImage request.sector request.empty disk later (Ok seen) → must_repair request.size seen ≡ false
       → AreFactsOn (wanted_of seen.shown list) facts → planned.seen ≡ seen
       → goal seen (target_of request.size seen) list facts request.seed ≡ Ok planned.plan → Goal
-  goal_at seen facts reads none known same is =
-      by_history (history disk) reads.settled where
-        by_history : (o : Option _) → IfSome o (λ h. Settles disk_refusal (seen_of request.sector request.empty (held h)) (Ok seen))
-            → IfSome o (λ h. IsGoalOf request list (held h) planned)
-        by_history None settles = tt
-        by_history (Some h) settles =
-            let sight = accepted_of (accepted request.sector (held h) request.empty) seen
-            (settled_ok disk_refusal (seen_of request.sector request.empty (held h)) seen settles) in
-            let aim = target_is request.sector request.size seen of_sector whole most reads.seen.whole reads.seen.most in
-            subst (λ (s : Seen). (others : List Fact)
-            × IsPlanned request.sector (held h) request.empty s (target_of request.size s) list others request.seed planned.plan) (sym same) (
-              facts,
-              record {
-                of_sector = of_sector;
-                seen_of = sight;
-                aim = aim;
-                grows = grows_by seen.origin seen.sectors (target_of request.size seen) none aim.least;
-                definitions = formed;
-                known = known;
-                goal_is = is;
-                fits = fits.table;
-              },
-            )
+  goal_at seen facts reads none known same is = λ past can.
+      let image = held (history_of past disk.calls) in
+      let sight = accepted_of (accepted request.sector image request.empty) seen
+      (settled_ok disk_refusal (seen_of request.sector request.empty image) seen (reads.settled past can)) in
+      let aim = target_is request.sector request.size seen of_sector whole most reads.seen.whole reads.seen.most in
+      subst (λ (s : Seen). (others : List Fact)
+      × IsPlanned request.sector image request.empty s (target_of request.size s) list others request.seed planned.plan) (sym same) (
+        facts,
+        record {
+          of_sector = of_sector;
+          seen_of = sight;
+          aim = aim;
+          grows = grows_by seen.origin seen.sectors (target_of request.size seen) none aim.least;
+          definitions = formed;
+          known = known;
+          goal_is = is;
+          fits = fits.table;
+        },
+      )
 
   by_facts : (seen : Seen) (known : Result (List Fact) Refusal) → ReadsImage request.sector request.empty disk later (Ok seen)
       → must_repair request.size seen ≡ false → AsksSources request.seed seen.shown list sources drained known
@@ -182,13 +180,7 @@ module _ (request : Request) (list : List Definition) (disk later : Device) (sou
     by_seen (Err other) reads e = subst IsRefused (sym (same_err {T = Planned} refusal other e.0)) (is_image other reads.refusal)
     by_seen (Ok seen) reads plans = none_unless seen (must_repair request.size seen) plans
 
--- what was planned left no call on the disk, and nothing that it tells
-pub only_read : (request : Request) (list : List Definition) (disk later : Device) (sources drained : Store (List Stored))
-    (answer : Result Planned Refusal) → PlansImage request list disk later sources drained answer
-    → (later.first ≡ disk.first) × (later.calls ≡ disk.calls)
-only_read request list disk later sources drained answer plans = (plans.1.only_read.first, plans.1.only_read.calls)
-
--- nor what the sources tell, where there is a plan
+-- the sources tell the same, where there is a plan
 pub told_same : (request : Request) (list : List Definition) (disk later : Device) (sources drained : Store (List Stored)) (planned : Planned)
     → PlansImage request list disk later sources drained (Ok planned) → drained.told ≡ sources.told
 told_same request list disk later sources drained planned plans = by_seen plans.0 plans.2 where
@@ -206,29 +198,28 @@ same_facts known facts (inl same) = cc
 same_facts known facts (inr (inl e)) = absurd (cc)
 same_facts known facts (inr (inr e)) = absurd (cc)
 
--- where image and sources tell, the plan is the one that is planned by them
+-- where sources tell, the plan is the one that is planned by them and the image
 module _ (request : Request) (list : List Definition) (disk later : Device) (sources drained : Store (List Stored)) (planned : Planned) where
   abbrev ToldBy : List ℕ → List Stored → Type 0
   ToldBy image files = planned_of request list image files ≡ Ok planned
 
   abbrev IsTold : Type 0
-  IsTold = IfSome (history disk) (λ h. IfSome sources.told (λ files. planned_of request list (held h) files ≡ Ok planned))
+  IsTold = Known disk later (λ h. IfSome sources.told (λ files. planned_of request list (held h) files ≡ Ok planned))
 
   told_at : (seen : Seen) (known : List Fact) → ReadsImage request.sector request.empty disk later (Ok seen)
       → must_repair request.size seen ≡ false → AsksSources request.seed seen.shown list sources drained (Ok known)
       → Ok planned ≡ planned_by request list seen known → IsTold
-  told_at seen known reads none asks is = by_both (history disk) sources.told reads.settled asks.settled where
-    by_both : (o : Option History) (t : Option (List Stored))
-        → IfSome o (λ h. Settles disk_refusal (seen_of request.sector request.empty (held h)) (Ok seen))
-        → IfSome t (λ files. Settles source_refusal (Ok (facts request.seed files seen.shown list)) (Ok known))
-        → IfSome o (λ h. IfSome t (λ files. planned_of request list (held h) files ≡ Ok planned))
-    by_both None t image settles = tt
-    by_both (Some h) None image settles = tt
-    by_both (Some h) (Some files) image settles =
-        ap (λ (r : Result Seen Refusal). and_then r (λ s. planned_unless (must_repair request.size s) request list files s))
-        (settled_ok disk_refusal (seen_of request.sector request.empty (held h)) seen image)
-        ∙ ap (λ b. planned_unless b request list files seen) none
-        ∙ ap (planned_by request list seen) (same_facts known (facts request.seed files seen.shown list) settles) ∙ sym is
+  told_at seen known reads none asks is = λ past can.
+      by_sources (held (history_of past disk.calls)) (reads.settled past can) sources.told asks.settled where
+        by_sources : (image : List ℕ) → Settles disk_refusal (seen_of request.sector request.empty image) (Ok seen) → (t : Option (List Stored))
+            → IfSome t (λ files. Settles source_refusal (Ok (facts request.seed files seen.shown list)) (Ok known))
+            → IfSome t (λ files. planned_of request list image files ≡ Ok planned)
+        by_sources image settles None told = tt
+        by_sources image settles (Some files) told =
+            ap (λ (r : Result Seen Refusal). and_then r (λ s. planned_unless (must_repair request.size s) request list files s))
+            (settled_ok disk_refusal (seen_of request.sector request.empty image) seen settles)
+            ∙ ap (λ b. planned_unless b request list files seen) none
+            ∙ ap (planned_by request list seen) (same_facts known (facts request.seed files seen.shown list) told) ∙ sym is
 
   told_facts : (seen : Seen) (known : Result (List Fact) Refusal) → ReadsImage request.sector request.empty disk later (Ok seen)
       → must_repair request.size seen ≡ false → AsksSources request.seed seen.shown list sources drained known

@@ -9,12 +9,12 @@ use Rattle.rp_base.specs.Table.{IsWhole}
 use Rattle.rp_base.specs.declared.seen.Seen.{Seen}
 use Rattle.rp_defs.specs.WellFormed.{IsWellFormed}
 use Rattle.rp_defs.specs.declared.definition.Definition.{Definition}
-use Rattle.rp_disk.specs.History.{History, held}
-use Rattle.rp_disk.specs.Made.{Made, history_told}
+use Rattle.rp_disk.specs.History.{held}
+use Rattle.rp_disk.specs.Made.{history_of}
 use Rattle.rp_gpt.specs.Shown.{accepted}
 use Rattle.rp_idle.proofs.Public.{plannable}
 use Rattle.rp_io.specs.declared.stored.Stored.{Stored}
-use Rattle.rp_outcome.specs.Device.{Device, history}
+use Rattle.rp_outcome.specs.Device.{Device}
 use Rattle.rp_outcome.specs.Refusals.{Refusal, repair_refusal}
 use Rattle.rp_outcome.specs.Store.{Store}
 use Rattle.rp_plan.specs.Goal.{goal}
@@ -27,7 +27,7 @@ use Rattle.rp_roots.proofs.Public.{goal_has_roots}
 use Rattle.rp_sizes.specs.Facts.{facts}
 use Rattle.rp_step.specs.Sourced.{sources_in}
 use Rattle.rp_apply_command.specs.Carrying.{HasToldRoots}
-use Rattle.rp_apply_command.proofs.Goals.{accepted_of, goal_by, is_told, only_read, told_same}
+use Rattle.rp_apply_command.proofs.Goals.{accepted_of, goal_by, is_told, told_same}
 
 module _ (request : Request) (list : List Definition) (files : List Stored) (planned : Planned) (of_sector : IsSector request.sector)
     (whole : request.size % 4096 ≡ 0) (most : request.size ≤ 2 ^ 44) (formed : IsWellFormed list) where
@@ -59,23 +59,17 @@ pub planned_roots : (request : Request) (list : List Definition) (image : List �
 planned_roots request list image files planned of_sector whole most formed is =
     by_seen request list files planned of_sector whole most formed image (seen_of request.sector request.empty image) refl is
 
--- so has what is planned for a disk and sources that tell
+-- so has what is planned for a disk, where sources tell
 module _ (request : Request) (list : List Definition) (disk later : Device) (sources drained : Store (List Stored)) (planned : Planned)
     (of_sector : IsSector request.sector) (whole : request.size % 4096 ≡ 0) (most : request.size ≤ 2 ^ 44) (formed : IsWellFormed list) where
-  abbrev RootsAt : Option History → Option (List Stored) → Type 0
-  RootsAt o t = IfSome o (λ h. IfSome t (λ files. HavePlannedRoots planned.plan (sources_in files (paths_of list))))
+  abbrev RootsAt : Option (List Stored) → Type 0
+  RootsAt t = IfSome t (λ files. HavePlannedRoots planned.plan (sources_in files (paths_of list)))
 
-  roots_each : (o : Option History) (t : Option (List Stored))
-      → IfSome o (λ h. IfSome t (λ files. planned_of request list (held h) files ≡ Ok planned)) → RootsAt o t
-  roots_each None t is = tt
-  roots_each (Some h) None is = tt
-  roots_each (Some h) (Some files) is = planned_roots request list (held h) files planned of_sector whole most formed is
+  roots_each : (image : List ℕ) (t : Option (List Stored)) → IfSome t (λ files. planned_of request list image files ≡ Ok planned) → RootsAt t
+  roots_each image None is = tt
+  roots_each image (Some files) is = planned_roots request list image files planned of_sector whole most formed is
 
   pub told_roots : PlansImage request list disk later sources drained (Ok planned) → HasToldRoots list planned later drained
-  told_roots plans =
-      let only = only_read request list disk later sources drained (Ok planned) plans in
-      subst (λ (t : Option (List Stored)). RootsAt (history later) t)
-      (sym (told_same request list disk later sources drained planned plans))
-      (subst (λ (o : Option (List ℕ)). RootsAt (history_told o later.calls) sources.told) (sym only.0)
-      (subst (λ (calls : List Made). RootsAt (history_told disk.first calls) sources.told) (sym only.1)
-      (roots_each (history disk) sources.told (is_told request list disk later sources drained planned plans))))
+  told_roots plans = λ past can.
+      subst RootsAt (sym (told_same request list disk later sources drained planned plans))
+      (roots_each (held (history_of past disk.calls)) sources.told (is_told request list disk later sources drained planned plans past can))

@@ -2,7 +2,7 @@
 use Rattle.std.proofs.Common.{◌≡◌, ◌∙◌, ℕ, List, [], ◌∷◌, ◌++◌, refl, sym, ap, append_assoc, append-nil}
 use Rattle.rp_disk.specs.Blocks.{flat}
 use Rattle.rp_disk.specs.History.{held}
-use Rattle.rp_disk.specs.Made.{Made, Done, dones, history_of}
+use Rattle.rp_disk.specs.Made.{Past, Made, Done, dones, history_of}
 use Rattle.rp_disk.specs.Runs.{MadeFirst}
 use Rattle.rp_disk.specs.declared.call.Call.{Call}
 use Rattle.rp_disk.specs.declared.call.Call.TheVariants.{Sync}
@@ -31,7 +31,7 @@ pub made_sync : (start new : List Made) → new ≡ start ++ dones (Sync ∷ [])
 made_sync start new opened = (Done Sync ∷ [], (refl, tt), opened)
 
 -- a sync changes no byte
-pub same_shown : (bytes : List ℕ) (start : List Made) → held (history_of bytes (start ++ dones (Sync ∷ []))) ≡ held (history_of bytes start)
+pub same_shown : (bytes : Past) (start : List Made) → held (history_of bytes (start ++ dones (Sync ∷ []))) ≡ held (history_of bytes start)
 same_shown bytes start = ap held (history_of-dones bytes start (Sync ∷ [])) ∙ held-all_did (history_of bytes start) (Sync ∷ [])
 
 -- a sync and blocks, each ended by a sync, end with one

@@ -3,8 +3,7 @@ use Rattle.std.proofs.Common.{◌≡◌, ◌∙◌, ℕ, List, [], ◌∷◌, �
 use Rattle.std.specs.Prelude.{IfErr, IfSome, IsErrAnd}
 use Rattle.rp_defs.specs.declared.definition.Definitions.{Definitions}
 use Rattle.rp_disk.specs.History.{held}
-use Rattle.rp_disk.specs.Made.{dones, history_told}
-use Rattle.rp_disk.specs.declared.call.Call.{Call}
+use Rattle.rp_disk.specs.Made.{Past, dones, history_told}
 use Rattle.rp_disk.specs.declared.call.Call.TheVariants.{Sync}
 use Rattle.rp_io.specs.Files.{Tree}
 use Rattle.rp_io.specs.declared.stored.Stored.{Stored}
@@ -47,23 +46,19 @@ not_memory n (inl a) b = absurd (omega (arith, a, b))
 not_memory n (inr (inl a)) b = absurd (omega (arith, a, b))
 not_memory n (inr (inr a)) b = absurd (omega (arith, a, b))
 
--- a sync changes nothing of what is told
-where_synced : (folders : Store Tree) (disk opened : Device) (sources : Store (List Stored)) (P : Tree → List ℕ → List Stored → Type 0)
-    → opened.first ≡ disk.first → opened.calls ≡ disk.calls ++ dones (Sync ∷ []) → WhereTold folders opened sources P
-    → WhereTold folders disk sources P
-where_synced folders disk opened sources P first synced holds =
-    by_both folders.told disk.first
-    (subst (λ o. IfSome folders.told (λ tree. IfSome (history_told o (disk.calls ++ dones (Sync ∷ [])))
-    (λ h. IfSome sources.told (P tree (held h))))) first
-    (subst (λ l. IfSome folders.told (λ tree. IfSome (history_told opened.first l) (λ h. IfSome sources.told (P tree (held h)))))
-    synced holds))
+-- a sync changes nothing of what is shown
+where_synced : (folders : Store Tree) (disk opened later : Device) (sources : Store (List Stored)) (P : Tree → List ℕ → List Stored → Type 0)
+    → opened.calls ≡ disk.calls ++ dones (Sync ∷ []) → WhereTold folders opened later sources P → WhereTold folders disk later sources P
+where_synced folders disk opened later sources P synced holds o can =
+    by_both folders.told o
+    (subst (λ calls. IfSome folders.told (λ tree. IfSome (history_told o calls) (λ h. IfSome sources.told (P tree (held h))))) synced (holds o can))
   where
-    by_both : (t : Option Tree) (o : Option (List ℕ))
+    by_both : (t : Option Tree) (o : Option Past)
         → IfSome t (λ tree. IfSome (history_told o (disk.calls ++ dones (Sync ∷ []))) (λ h. IfSome sources.told (P tree (held h))))
         → IfSome t (λ tree. IfSome (history_told o disk.calls) (λ h. IfSome sources.told (P tree (held h))))
     by_both None o told = tt
     by_both (Some tree) None told = tt
-    by_both (Some tree) (Some bytes) told = subst (λ image. IfSome sources.told (P tree image)) (same_shown bytes disk.calls) told
+    by_both (Some tree) (Some past) told = subst (λ image. IfSome sources.told (P tree image)) (same_shown past disk.calls) told
 
 module _ (request : Request) (json : Bool) (dirs : List (List ℕ)) (folders gone : Store Tree) (disk : Device)
     (sources : Store (List Stored)) (out after : Output) (status : ℕ) (is : IsRefused status) where
@@ -71,26 +66,26 @@ module _ (request : Request) (json : Bool) (dirs : List (List ℕ)) (folders gon
   IsLine tree image files = IsErrAnd (told_plan request dirs tree image files)
       (λ refusal. (refusal.status ≡ status) × Prints out after (line_of refusal))
 
-  abbrev Refused : Device → Type 0
-  Refused device = WhereTold folders device sources IsLine
+  abbrev Refused : Device → Device → Type 0
+  Refused device later = WhereTold folders device later sources IsLine
 
   by_opening : (definitions : Definitions) → ReadsDefinitions request.arch dirs folders gone (Ok definitions) → (opened later : Device)
-      (drained : Store (List Stored)) (calls : List Call) (answer : Outcome) → Opens disk opened answer
-      → AppliesOpened request json definitions opened later sources drained out after status calls answer → Refused disk
-  by_opening definitions reads opened later drained calls (Err refusal) opens here =
-      not_between status is (inl (here.3.answers ∙ ap (λ (r : Refusal). r.status) opens.refusal))
-  by_opening definitions reads opened later drained calls (Ok done) opens plans = by_plan plans.0 plans.1 plans.2 plans.3 plans.5 where
+      (drained : Store (List Stored)) (answer : Outcome) → Opens disk opened answer
+      → AppliesOpened request json definitions opened later sources drained out after status answer → Refused disk later
+  by_opening definitions reads opened later drained (Err refusal) opens here =
+      not_between status is (inl (here.2.answers ∙ ap (λ (r : Refusal). r.status) opens.refusal))
+  by_opening definitions reads opened later drained (Ok done) opens plans = by_plan plans.0 plans.1 plans.2 plans.3 plans.5 where
     by_plan : (seen : Device) (asked : Store (List Stored)) (answer : Result Planned Refusal)
         → PlansImage request definitions.list opened seen sources asked answer
-        → AppliesPlanned json definitions seen later asked drained out after status calls answer → Refused disk
+        → AppliesPlanned json definitions seen later asked drained out after status answer → Refused disk later
     by_plan seen asked (Err refusal) planned here =
-        where_synced folders disk opened sources IsLine opens.first opens.ran.ok
+        subst (Refused disk) (sym here.0) (where_synced folders disk opened seen sources IsLine opens.ran.ok
         ((by_status request json dirs folders gone opened seen sources asked out after status
-        (Ok definitions, reads, (Err refusal, planned, here.3))).refused is)
-    by_plan seen asked (Ok planned) carries (inl here) = not_memory status is here.3.answers
+        (Ok definitions, reads, (Err refusal, planned, here.2))).refused is))
+    by_plan seen asked (Ok planned) carries (inl here) = not_memory status is here.2.answers
     by_plan seen asked (Ok planned) carries (inr commits) = by_commit commits.0 commits.1.refusal commits.2 where
       by_commit : (answer : Outcome) → IfErr answer (IsCommitRefusal planned)
-          → Tells json definitions planned out after status answer → Refused disk
+          → Tells json definitions planned out after status answer → Refused disk later
       by_commit (Ok done) cause finishes = not_behind status is (finished out after (applied_report json definitions planned) status finishes)
       by_commit (Err refusal) cause refuses = not_between status is (subst IsBetween (sym refuses.answers) (is_commit planned refusal cause))
 
@@ -98,17 +93,16 @@ module _ (request : Request) (json : Bool) (dirs : List (List ℕ)) (folders gon
 pub refuses_so : (request : Request) (json : Bool) (dirs : List (List ℕ)) (folders gone : Store Tree) (disk later : Device)
     (sources drained : Store (List Stored)) (out after : Output) (status : ℕ)
     → Applies request json dirs folders gone disk later sources drained out after status → IsRefused status
-    → WhereTold folders disk sources (λ tree image files. IsErrAnd (told_plan request dirs tree image files)
+    → WhereTold folders disk later sources (λ tree image files. IsErrAnd (told_plan request dirs tree image files)
     (λ refusal. (refusal.status ≡ status) × Prints out after (line_of refusal)))
 refuses_so request json dirs folders gone disk later sources drained out after status applies is =
-    by_definitions applies.1.0 applies.1.1 applies.1.2 where
+    by_definitions applies.0 applies.1 applies.2 where
       by_definitions : (answer : Result Definitions Refusal) → ReadsDefinitions request.arch dirs folders gone answer
-          → AppliesBehind request json disk later sources drained out after status applies.0 answer
-          → WhereTold folders disk sources (λ tree image files. IsErrAnd (told_plan request dirs tree image files)
+          → AppliesBehind request json disk later sources drained out after status answer
+          → WhereTold folders disk later sources (λ tree image files. IsErrAnd (told_plan request dirs tree image files)
           (λ refusal. (refusal.status ≡ status) × Prints out after (line_of refusal)))
       by_definitions (Err refusal) reads here =
-          (by_status request json dirs folders gone disk later sources drained out after status
-          (Err refusal, reads, (here.0, here.1, here.3))).refused is
+          (by_status request json dirs folders gone disk later sources drained out after status (Err refusal, reads, here)).refused is
       by_definitions (Ok definitions) reads opens =
-          by_opening request json dirs folders gone disk sources out after status is definitions reads opens.0 later drained applies.0
-          opens.1 opens.2 opens.3
+          by_opening request json dirs folders gone disk sources out after status is definitions reads opens.0 later drained opens.1
+          opens.2 opens.3

@@ -1,6 +1,6 @@
 -- What `apply` does, stage by stage: the definitions are read, the disk is synced, what is to become of the image is planned, all
 -- memory is taken, the plan is carried out, and it is told.
-use Rattle.std.specs.Prelude.{ℕ, ◌≡◌, ◌≢◌, ◌⊎◌, List, [], ◌∷◌, Any, Bool, true, length, None, Result, Ok, Err, IfOk, IfSome, IfErr}
+use Rattle.std.specs.Prelude.{ℕ, ◌≡◌, ◌≢◌, ◌⊎◌, List, [], ◌∷◌, Any, Bool, true, length, Option, None, Result, Ok, Err, IfOk, IfSome, IfErr}
 use Rattle.rp_apply.specs.Called.{AreCallsFor}
 use Rattle.rp_apply.specs.Sourced.{paths_of}
 use Rattle.rp_step.specs.Sourced.{sources_in}
@@ -9,12 +9,14 @@ use Rattle.rp_base.specs.Table.{TableFits}
 use Rattle.rp_base.specs.declared.guid.Guid.{Guid}
 use Rattle.rp_base.specs.declared.plan.Role.TheVariants.{Hash}
 use Rattle.rp_defs.specs.declared.definition.Definitions.{Definitions}
+use Rattle.rp_disk.specs.Device.{Earlier, IsPossible, StaysInside}
+use Rattle.rp_disk.specs.Made.{Past}
 use Rattle.rp_disk.specs.Runs.{Runs}
 use Rattle.rp_disk.specs.declared.call.Call.{Call}
 use Rattle.rp_disk.specs.declared.call.Call.TheVariants.{Sync}
 use Rattle.rp_io.specs.Files.{Tree}
 use Rattle.rp_io.specs.declared.stored.Stored.{Stored}
-use Rattle.rp_outcome.specs.Device.{Device, history}
+use Rattle.rp_outcome.specs.Device.{Device}
 use Rattle.rp_outcome.specs.Output.{Output, Finishes, Refuses}
 use Rattle.rp_outcome.specs.Refusals.{Refusal, changed_refusal, disk_refusal, memory_refusal, source_refusal}
 use Rattle.rp_outcome.specs.Statuses as exit
@@ -36,9 +38,9 @@ Outcome = Result (Unit {0}) Refusal
 
 -- the disk was synced, or the sync failed; no other call was made
 pub record Opens (before now : Device) (answer : Outcome) : Type 0 where
-  pub first : now.first ≡ before.first
+  pub earlier : Earlier before now
   pub ran : Runs before.calls (Sync ∷ []) now.calls answer
-  pub strays : IfSome before.first (λ _. now.strays ≡ before.strays)
+  pub answers : now.answers ≡ before.answers
   pub refusal : IfErr answer (λ refusal. refusal ≡ disk_refusal)
   pub cause : HasStageCause disk_refusal before.faults now.faults answer
 
@@ -64,18 +66,27 @@ pub record HasCommitCauses (disk later : Device) (sources drained : Store (List 
   pub of_disk : HasStageCause disk_refusal disk.faults later.faults answer
   pub of_sources : HasStageCause source_refusal sources.faults drained.faults answer
 
--- these calls carry out the plan, whatever bytes sources that don't tell have; where disk and sources tell, they are those of its
--- steps, and no source has changed. They were all made, or the first of them
-pub record CarriesOut (definitions : Definitions) (planned : Planned) (disk later : Device) (sources drained : Store (List Stored))
-    (calls : List Call) (answer : Outcome) : Type 0 where
-  pub first : later.first ≡ disk.first
-  pub told : drained.told ≡ sources.told
+-- this holds for each past that the disk can have by now, and where none is named
+abbrev pub ForEachPast : Device → (Option Past → Type 0) → Type 0
+ForEachPast now P = (o : Option Past) → IsPossible o now → P o
+
+-- these calls carry out the plan, whatever bytes sources that don't tell have; for a past of the disk, where sources tell, they are
+-- those of its steps, and no source has changed. They were all made, or the first of them
+pub record RunsPlan (definitions : Definitions) (planned : Planned) (disk later : Device) (sources : Store (List Stored)) (answer : Outcome)
+    (o : Option Past) (calls : List Call) : Type 0 where
   pub are : AreCallsFor planned.seen planned.plan calls
-  pub exact : IfSome (history disk) (λ h. IfSome sources.told (λ files.
+  pub exact : IfSome o (λ past. IfSome sources.told (λ files.
       (calls ≡ calls_for planned.plan planned.seen (sources_in files (paths_of definitions.list)))
       × IfErr answer (λ refusal. refusal.status ≢ exit.changed)))
   pub ran : Runs disk.calls calls later.calls answer
-  pub strays : IfSome (history disk) (λ h. later.strays ≡ disk.strays)
+
+-- the calls of a plan were made, or the first of them
+pub record CarriesOut (definitions : Definitions) (planned : Planned) (disk later : Device) (sources drained : Store (List Stored))
+    (answer : Outcome) : Type 0 where
+  pub earlier : Earlier disk later
+  pub told : drained.told ≡ sources.told
+  pub runs : ForEachPast later (λ o. (calls : List Call) × RunsPlan definitions planned disk later sources answer o calls)
+  pub inside : StaysInside disk later
   pub refusal : IfErr answer (IsCommitRefusal planned)
   pub cause : HasCommitCauses disk later sources drained answer
 
@@ -92,52 +103,47 @@ Tells json definitions planned out after status (Err refusal) = Refuses out afte
 
 -- the memory for carrying out and for the text was there, and the plan was carried out
 abbrev pub Commits : Bool → Definitions → Planned → Device → Device → Store (List Stored) → Store (List Stored) → Output → Output → ℕ
-    → List Call → Type 0
-Commits json definitions planned disk later sources drained out after status calls =
-    (answer : Outcome) × CarriesOut definitions planned disk later sources drained calls answer
+    → Type 0
+Commits json definitions planned disk later sources drained out after status =
+    (answer : Outcome) × CarriesOut definitions planned disk later sources drained answer
     × Tells json definitions planned out after status answer
 
--- nothing more was asked of disk and sources, and no call of a plan was made
-abbrev pub EndsHere : Device → Device → Store (List Stored) → Store (List Stored) → Output → Output → ℕ → Refusal → List Call → Type 0
-EndsHere disk later sources drained out after status refusal calls =
-    (later ≡ disk) × (drained ≡ sources) × (calls ≡ []) × Refuses out after refusal status
+-- nothing more was asked of disk and sources
+abbrev pub EndsHere : Device → Device → Store (List Stored) → Store (List Stored) → Output → Output → ℕ → Refusal → Type 0
+EndsHere disk later sources drained out after status refusal =
+    (later ≡ disk) × (drained ≡ sources) × Refuses out after refusal status
 
 -- what is planned is carried out, unless there was no memory for it
 abbrev pub AppliesPlanned : Bool → Definitions → Device → Device → Store (List Stored) → Store (List Stored) → Output → Output → ℕ
-    → List Call → Result Planned Refusal → Type 0
-AppliesPlanned json definitions disk later sources drained out after status calls (Err refusal) =
-    EndsHere disk later sources drained out after status refusal calls
-AppliesPlanned json definitions disk later sources drained out after status calls (Ok planned) =
-    EndsHere disk later sources drained out after status memory_refusal calls
-    ⊎ Commits json definitions planned disk later sources drained out after status calls
+    → Result Planned Refusal → Type 0
+AppliesPlanned json definitions disk later sources drained out after status (Err refusal) =
+    EndsHere disk later sources drained out after status refusal
+AppliesPlanned json definitions disk later sources drained out after status (Ok planned) =
+    EndsHere disk later sources drained out after status memory_refusal
+    ⊎ Commits json definitions planned disk later sources drained out after status
 
 -- it is planned for the image, once the disk was synced
 abbrev pub AppliesOpened : Request → Bool → Definitions → Device → Device → Store (List Stored) → Store (List Stored) → Output → Output
-    → ℕ → List Call → Outcome → Type 0
-AppliesOpened request json definitions disk later sources drained out after status calls (Err refusal) =
-    EndsHere disk later sources drained out after status refusal calls
-AppliesOpened request json definitions disk later sources drained out after status calls (Ok done) =
+    → ℕ → Outcome → Type 0
+AppliesOpened request json definitions disk later sources drained out after status (Err refusal) =
+    EndsHere disk later sources drained out after status refusal
+AppliesOpened request json definitions disk later sources drained out after status (Ok done) =
     (read : Device) × (asked : Store (List Stored)) × (answer : Result Planned Refusal)
     × PlansImage request definitions.list disk read sources asked answer × IfOk answer PlanFits
-    × AppliesPlanned json definitions read later asked drained out after status calls answer
+    × AppliesPlanned json definitions read later asked drained out after status answer
 
 -- the disk is synced, once definitions were read
 abbrev pub AppliesBehind : Request → Bool → Device → Device → Store (List Stored) → Store (List Stored) → Output → Output → ℕ
-    → List Call → Result Definitions Refusal → Type 0
-AppliesBehind request json disk later sources drained out after status calls (Err refusal) =
-    EndsHere disk later sources drained out after status refusal calls
-AppliesBehind request json disk later sources drained out after status calls (Ok definitions) =
+    → Result Definitions Refusal → Type 0
+AppliesBehind request json disk later sources drained out after status (Err refusal) =
+    EndsHere disk later sources drained out after status refusal
+AppliesBehind request json disk later sources drained out after status (Ok definitions) =
     (opened : Device) × (answer : Outcome) × Opens disk opened answer
-    × AppliesOpened request json definitions opened later sources drained out after status calls answer
+    × AppliesOpened request json definitions opened later sources drained out after status answer
 
--- the definitions are read, the disk is synced, it is planned, carried out and told; behind the sync these calls were to be made
-abbrev pub AppliesBy : Request → Bool → List (List ℕ) → Store Tree → Store Tree → Device → Device → Store (List Stored)
-    → Store (List Stored) → Output → Output → ℕ → List Call → Type 0
-AppliesBy request json dirs folders read disk later sources drained out after status calls =
-    (definitions : Result Definitions Refusal) × ReadsDefinitions request.arch dirs folders read definitions
-    × AppliesBehind request json disk later sources drained out after status calls definitions
-
+-- the definitions are read, the disk is synced, it is planned, carried out and told
 abbrev pub Applies : Request → Bool → List (List ℕ) → Store Tree → Store Tree → Device → Device → Store (List Stored)
     → Store (List Stored) → Output → Output → ℕ → Type 0
 Applies request json dirs folders read disk later sources drained out after status =
-    (calls : List Call) × AppliesBy request json dirs folders read disk later sources drained out after status calls
+    (definitions : Result Definitions Refusal) × ReadsDefinitions request.arch dirs folders read definitions
+    × AppliesBehind request json disk later sources drained out after status definitions

@@ -1,4 +1,4 @@
--- What a run of `apply` answers where disk and sources tell what they hold.
+-- What a run of `apply` answers where sources tell what they hold.
 use Rattle.std.specs.Prelude.{ℕ, ◌≡◌, ◌⊎◌, List, Result, Ok, Err}
 use Rattle.rp_base.specs.Faults.{Rose}
 use Rattle.rp_defs.specs.declared.definition.Definitions.{Definitions}

@@ -1,10 +1,8 @@
-ghost use Rattle.std.specs.Prelude.{◌≡◌, ◌≤◌, ◌%◌, ◌^◌, ℕ, Bool, List, IfOk};
+ghost use Rattle.std.specs.Prelude.{◌≡◌, ◌≤◌, ◌%◌, ◌^◌, Bool, IfOk};
 ghost use Rattle.rp_apply.specs.Ready.{IsReady, IsReadyFor};
 ghost use Rattle.rp_base.specs.Geometry.{IsSector};
 ghost use Rattle.rp_defs.specs.WellFormed.{IsWellFormed};
 ghost use Rattle.rp_defs.specs.declared.definition.Definitions.{Definitions as Defined};
-ghost use Rattle.rp_disk.specs.declared.call.Call.{Call};
-ghost use Rattle.rp_outcome.specs.Device.{device};
 ghost use Rattle.rp_outcome.specs.Output.{output};
 ghost use Rattle.rp_outcome.specs.Store.{store};
 ghost use Rattle.rp_planned.specs.declared.planned.Planned.{Planned as Aim};
@@ -42,7 +40,7 @@ pub fn apply<D: Disk, F: Folders, S: Sources, K: Sink>(
     requires most { request.size ≤ 2 ^ 44 }
     ensures { Applies request json dirs.now
         (store F.told F.faults F.strays folders.old) (store F.told F.faults F.strays folders.new)
-        (device D.first D.calls D.faults D.strays disk.old) (device D.first D.calls D.faults D.strays disk.new)
+        (D.device disk.old) (D.device disk.new)
         (store S.told S.faults S.strays sources.old) (store S.told S.faults S.strays sources.new)
         (output K.told K.faults out.old) (output K.told K.faults out.new) result }
 {
@@ -70,10 +68,10 @@ fn apply_opened<D: Disk, S: Sources, K: Sink>(
     requires whole { request.size % 4096 ≡ 0 }
     requires most { request.size ≤ 2 ^ 44 }
     requires list { IsWellFormed definitions.now.list }
-    ensures { (calls : List Call) × AppliesOpened request json definitions.now
-        (device D.first D.calls D.faults D.strays disk.old) (device D.first D.calls D.faults D.strays disk.new)
+    ensures { AppliesOpened request json definitions.now
+        (D.device disk.old) (D.device disk.new)
         (store S.told S.faults S.strays sources.old) (store S.told S.faults S.strays sources.new)
-        (output K.told K.faults out.old) (output K.told K.faults out.new) result calls (Ok tt) }
+        (output K.told K.faults out.old) (output K.told K.faults out.new) result (Ok tt) }
 {
     let list = definitions.list.as_slice();
     match plan_image(alloc, request, list, disk, sources) {
@@ -93,14 +91,14 @@ fn apply_planned<D: Disk, S: Sources, K: Sink>(
     out: &mut K,
 ) -> u8
     requires can { CanPrepare definitions.now.list planned.now }
-    requires len { HasSeenLength planned.now (device D.first D.calls D.faults D.strays disk.old) }
+    requires len { HasSeenLength planned.now (D.device disk.old) }
     requires roots { HasToldRoots definitions.now.list planned.now
-        (device D.first D.calls D.faults D.strays disk.old) (store S.told S.faults S.strays sources.old) }
+        (D.device disk.old) (store S.told S.faults S.strays sources.old) }
     ensures fits { PlanFits planned.now }
-    ensures applies { (calls : List Call) × AppliesPlanned json definitions.now
-        (device D.first D.calls D.faults D.strays disk.old) (device D.first D.calls D.faults D.strays disk.new)
+    ensures applies { AppliesPlanned json definitions.now
+        (D.device disk.old) (D.device disk.new)
         (store S.told S.faults S.strays sources.old) (store S.told S.faults S.strays sources.new)
-        (output K.told K.faults out.old) (output K.told K.faults out.new) result calls (Ok planned.now) }
+        (output K.told K.faults out.old) (output K.told K.faults out.new) result (Ok planned.now) }
 {
     match prepared(alloc, json, definitions, planned) {
         Ok((ready, text)) => carried_out(ready, text.as_str(), disk, sources, out),
@@ -139,13 +137,13 @@ fn carried_out<D: Disk, S: Sources, K: Sink>(
     requires { IsReady ready }
     ensures { (json : Bool) (definitions : Defined) (planned : Aim) → IsReadyFor planned.plan planned.seen definitions.list ready
         → text.now ≡ applied_report json definitions planned
-        → HasSeenLength planned (device D.first D.calls D.faults D.strays disk.old)
+        → HasSeenLength planned (D.device disk.old)
         → HasToldRoots definitions.list planned
-        (device D.first D.calls D.faults D.strays disk.old) (store S.told S.faults S.strays sources.old)
-        → (calls : List Call) × Commits json definitions planned
-        (device D.first D.calls D.faults D.strays disk.old) (device D.first D.calls D.faults D.strays disk.new)
+        (D.device disk.old) (store S.told S.faults S.strays sources.old)
+        → Commits json definitions planned
+        (D.device disk.old) (D.device disk.new)
         (store S.told S.faults S.strays sources.old) (store S.told S.faults S.strays sources.new)
-        (output K.told K.faults out.old) (output K.told K.faults out.new) result calls }
+        (output K.told K.faults out.old) (output K.told K.faults out.new) result }
 {
     match commit(ready, disk, sources) {
         Ok(_) => finish(out, text),

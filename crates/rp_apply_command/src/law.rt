@@ -6,8 +6,9 @@ ghost use Rattle.rp_base.specs.Geometry.{IsSector};
 ghost use Rattle.rp_defs.specs.WellFormed.{IsWellFormed};
 ghost use Rattle.rp_defs.specs.declared.definition.Definition.{Definition};
 ghost use Rattle.rp_defs.specs.declared.definition.Definitions.{Definitions};
+ghost use Rattle.rp_disk.specs.Device.{CanHave};
 ghost use Rattle.rp_disk.specs.History.{held};
-ghost use Rattle.rp_disk.specs.Made.{history_of};
+ghost use Rattle.rp_disk.specs.Made.{Past, history_of};
 ghost use Rattle.rp_disk.specs.Runs.{MadeFirst};
 ghost use Rattle.rp_disk.specs.declared.call.Call.{Call};
 ghost use Rattle.rp_idle.specs.Idle.{IsIdle};
@@ -36,57 +37,57 @@ pub fn apply_ends()
         → Ends request json dirs folders disk later sources out after status }
 {}
 
-/// A second run: on an idle image that isn't to grow, where disk and folders tell, no call is made but the sync, at every status.
+/// A second run: on an idle image that isn't to grow, where the folders tell, no call is made but the sync, at every status.
 /// Where it is done, it tells no steps, no writes and each row as the same.
 pub fn apply_on_an_idle_image()
     ensures calls { (request : Asked) (json : Bool) (dirs : List (List ℕ)) (folders read : Store Tree) (disk later : Device)
         (sources drained : Store (List Stored)) (out after : Output) (status : ℕ)
         → IsSector request.sector → request.size % 4096 ≡ 0 → request.size ≤ 2 ^ 44
         → Applies request json dirs folders read disk later sources drained out after status
-        → (bytes : List ℕ) (tree : Tree) (definitions : Definitions) → disk.first ≡ Some bytes → folders.told ≡ Some tree
+        → (past : Past) (tree : Tree) (definitions : Definitions) → CanHave past later → folders.told ≡ Some tree
         → definitions_in request.arch tree dirs ≡ Ok definitions
-        → IsIdle request.sector (held (history_of bytes disk.calls)) definitions.list request.seed
-        → request.size ≤ length (held (history_of bytes disk.calls)) → MadeFirst disk.calls (Call.Sync ∷ []) later.calls }
+        → IsIdle request.sector (held (history_of past disk.calls)) definitions.list request.seed
+        → request.size ≤ length (held (history_of past disk.calls)) → MadeFirst disk.calls (Call.Sync ∷ []) later.calls }
     ensures text { (request : Asked) (json : Bool) (dirs : List (List ℕ)) (folders read : Store Tree) (disk later : Device)
         (sources drained : Store (List Stored)) (out after : Output) (status : ℕ)
         → IsSector request.sector → request.size % 4096 ≡ 0 → request.size ≤ 2 ^ 44
         → Applies request json dirs folders read disk later sources drained out after status
-        → (bytes : List ℕ) (tree : Tree) (definitions : Definitions) → disk.first ≡ Some bytes → folders.told ≡ Some tree
+        → (past : Past) (tree : Tree) (definitions : Definitions) → CanHave past later → folders.told ≡ Some tree
         → definitions_in request.arch tree dirs ≡ Ok definitions
-        → IsIdle request.sector (held (history_of bytes disk.calls)) definitions.list request.seed
-        → request.size ≤ length (held (history_of bytes disk.calls)) → status ≡ exit.done → TellsUnchanged json definitions out after }
+        → IsIdle request.sector (held (history_of past disk.calls)) definitions.list request.seed
+        → request.size ≤ length (held (history_of past disk.calls)) → status ≡ exit.done → TellsUnchanged json definitions out after }
 {}
 
-/// What is refused, and how: at 3, 4 and 5, where folders, disk and sources tell, the first refusal of what they tell has that
-/// status, and its line was printed. It is that of `plan`.
+/// What is refused, and how: at 3, 4 and 5, where folders and sources tell, the first refusal of what they tell and of each past that
+/// the disk can have has that status, and its line was printed. It is that of `plan`.
 pub fn apply_refuses_as_plan()
     ensures { (request : Asked) (json : Bool) (dirs : List (List ℕ)) (folders read : Store Tree) (disk later : Device)
         (sources drained : Store (List Stored)) (out after : Output) (status : ℕ)
         → Applies request json dirs folders read disk later sources drained out after status → IsRefused status
-        → WhereTold folders disk sources (λ tree image files. IsErrAnd (told_plan request dirs tree image files)
+        → WhereTold folders disk later sources (λ tree image files. IsErrAnd (told_plan request dirs tree image files)
         (λ refusal. (refusal.status ≡ status) × Prints out after (line_of refusal))) }
 {}
 
-/// What is planned for an image and sources that tell has the root hash of each pair's source, so that none of them is found changed.
+/// What is planned for an image and sources has the root hash of each pair's source, so that none of them is found changed.
 pub fn plans_have_their_roots()
     ensures { (request : Asked) (list : List Definition) (image : List ℕ) (files : List Stored) (planned : Planned)
         → IsSector request.sector → request.size % 4096 ≡ 0 → request.size ≤ 2 ^ 44 → IsWellFormed list
         → planned_of request list image files ≡ Ok planned → HavePlannedRoots planned.plan (Given list files) }
 {}
 
-/// Where disk and sources tell, each status but 0, 3, 4, 5 and 10 comes with a call that failed, and 11 doesn't come. So `apply` is
-/// complete: where the folders tell too and no call fails, it is done exactly where what is told gives a plan, and else has the
-/// status of the first refusal, but for want of memory.
+/// Where sources tell, and the disk can have a past, each status but 0, 3, 4, 5 and 10 comes with a call that failed, and 11 doesn't
+/// come. So `apply` is complete: where the folders tell too and no call fails, it is done exactly where what is told and that past give
+/// a plan, and else has the status of the first refusal, but for want of memory.
 pub fn apply_is_complete()
     ensures reasons { (request : Asked) (json : Bool) (dirs : List (List ℕ)) (folders read : Store Tree) (disk later : Device)
         (sources drained : Store (List Stored)) (out after : Output) (status : ℕ)
         → Applies request json dirs folders read disk later sources drained out after status
-        → (bytes : List ℕ) (files : List Stored) → disk.first ≡ Some bytes → sources.told ≡ Some files
+        → (past : Past) (files : List Stored) → CanHave past later → sources.told ≡ Some files
         → HasReason folders read disk later sources drained out after status }
     ensures answers { (request : Asked) (json : Bool) (dirs : List (List ℕ)) (folders read : Store Tree) (disk later : Device)
         (sources drained : Store (List Stored)) (out after : Output) (status : ℕ)
         → IsSector request.sector → request.size % 4096 ≡ 0 → request.size ≤ 2 ^ 44
         → Applies request json dirs folders read disk later sources drained out after status
         → NoneFailed folders read disk later sources drained out after
-        → WhereTold folders disk sources (λ tree image files. AnswersAsTold status (told_plan request dirs tree image files)) }
+        → WhereTold folders disk later sources (λ tree image files. AnswersAsTold status (told_plan request dirs tree image files)) }
 {}

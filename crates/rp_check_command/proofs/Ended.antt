@@ -9,10 +9,12 @@ use Rattle.rp_check_command.specs.Statuses.{CheckByStatus, told_difference}
 use Rattle.rp_defs.specs.declared.definition.Definitions.{Definitions}
 use Rattle.rp_difference.specs.Difference.{difference}
 use Rattle.rp_difference.specs.declared.difference.Difference.{Difference}
-use Rattle.rp_disk.specs.History.{History, held}
+use Rattle.rp_disk.specs.History.{held}
+use Rattle.rp_disk.specs.Made.{history_told}
+use Rattle.rp_disk.proofs.Noting.{can_before, earlier_then}
 use Rattle.rp_io.specs.Files.{Tree}
 use Rattle.rp_io.specs.declared.stored.Stored.{Stored}
-use Rattle.rp_outcome.specs.Device.{Device, IsOnlyRead, history}
+use Rattle.rp_outcome.specs.Device.{Device, IsOnlyRead}
 use Rattle.rp_outcome.specs.Output.{Output, Differs, Finishes, Prints, PrintsPart, Refuses}
 use Rattle.rp_outcome.specs.Refusals.{Refusal, disk_refusal, line_of, memory_refusal}
 use Rattle.rp_outcome.specs.Store.{Store}
@@ -47,14 +49,10 @@ nothing_printed out after refusal status refuses ten =
 -- one reading behind another
 pub read_twice : (disk seen later : Device) → IsOnlyRead disk seen → IsOnlyRead seen later → IsOnlyRead disk later
 read_twice disk seen later one two = record {
-  first = two.first ∙ one.first;
   calls = two.calls ∙ one.calls;
-  strays = go disk.first seen.first one.first one.strays two.strays;
-} where
-  go : (o p : Option (List ℕ)) → p ≡ o → IfSome o (λ _. seen.strays ≡ disk.strays) → IfSome p (λ _. later.strays ≡ seen.strays)
-      → IfSome o (λ _. later.strays ≡ disk.strays)
-  go None p e a b = tt
-  go (Some bytes) p e a b = let here : IfSome (Some bytes) (λ _. later.strays ≡ seen.strays) = rw e at b in here ∙ a
+  earlier = earlier_then one.earlier two.earlier;
+  inside = λ past can. two.inside past can ∙ one.inside past (can_before two.earlier can);
+}
 
 -- what follows where all three tell
 where_more : {A B C : Type 0} (o : Option A) (p : Option B) (q : Option C) (P Q : A → B → C → Type 0) → ((a : A) (b : B) (c : C) → P a b c → Q a b c)
@@ -86,11 +84,11 @@ module _ (seed : Guid) (arch : Arch) (sector : ℕ) (dirs : List (List ℕ)) (fo
     other = λ f. absurd (not_1 f);
     kept = λ f. absurd (not_1 f);
     cut = λ f. absurd (not_9 f);
-    refused = λ f.
-        where_more folders.told (history disk) sources.told _ _
+    refused = λ f. λ o can.
+        where_more folders.told (history_told o disk.calls) sources.told _ _
         (λ tree h files is. refused_then (λ refusal. (refusal.status ≡ status) × Prints out after (line_of refusal))
         (told_plan (check_request seed arch sector) dirs tree (held h) files)
-        (λ told. Ok (difference (held h) arch told.1.seen told.1.plan)) is) (known.refused f);
+        (λ told. Ok (difference (held h) arch told.1.seen told.1.plan)) is) (known.refused f o can);
     disk_line = known.disk_line;
     nothing = nothing;
   } where
@@ -148,7 +146,7 @@ module _ (seed : Guid) (arch : Arch) (sector : ℕ) (dirs : List (List ℕ)) (fo
 
     module _ (kept : later.faults ≡ disk.faults) (folders_kept : read.faults ≡ folders.faults) (sources_kept : drained.faults ≡ sources.faults) where
       abbrev Says : Option Difference → Type 0
-      Says found = WhereTold folders disk sources (λ tree image files. told_difference seed arch sector dirs tree image files ≡ Ok found)
+      Says found = WhereTold folders disk later sources (λ tree image files. told_difference seed arch sector dirs tree image files ≡ Ok found)
 
       -- a part was printed
       by_part : (found : Option Difference) → Says found → status ≡ 9 → Rose out.faults after.faults

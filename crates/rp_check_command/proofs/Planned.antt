@@ -7,10 +7,11 @@ use Rattle.rp_check_command.proofs.Sighted.{settled_ok}
 use Rattle.rp_defs.specs.declared.definition.Definition.{Definition}
 use Rattle.rp_demand.specs.declared.demand.Demand.{Demand}
 use Rattle.rp_demand.specs.declared.demand.Demand.TheVariants as demands
-use Rattle.rp_disk.specs.History.{History, held}
+use Rattle.rp_disk.specs.History.{held}
+use Rattle.rp_disk.specs.Made.{history_of}
 use Rattle.rp_io.specs.declared.stored.Stored.{Stored}
 use Rattle.rp_outcome.specs.Demands.{demand_refusal}
-use Rattle.rp_outcome.specs.Device.{Device, history}
+use Rattle.rp_outcome.specs.Device.{Device, Known}
 use Rattle.rp_outcome.specs.Refusals.{Refusal, disk_refusal, memory_refusal, repair_refusal, source_refusal}
 use Rattle.rp_outcome.specs.Store.{Store}
 use Rattle.rp_plan.specs.Goal.{goal}
@@ -92,19 +93,17 @@ module _ (request : Request) (list : List Definition) (disk later : Device) (sou
       by_seen (Err refusal) reads e = no_ok planned refusal e.0
       by_seen (Ok seen) reads plans = by_repair seen (must_repair request.size seen) refl reads plans
 
-    -- where the disk and the sources tell, it is what is planned by what they tell
+    -- where the sources tell, it is what is planned by what they tell
     pub planned_told : IsFrom
-        → IfSome (history disk) (λ h. IfSome sources.told (λ files. planned_of request list (held h) files ≡ Ok planned))
-    planned_told from = by_both (history disk) sources.told from.reads.settled from.asks.settled where
-      by_both : (o : Option History) (t : Option (List Stored))
-          → IfSome o (λ h. Settles disk_refusal (seen_of request.sector request.empty (held h)) (Ok planned.seen))
+        → Known disk later (λ h. IfSome sources.told (λ files. planned_of request list (held h) files ≡ Ok planned))
+    planned_told from = λ past can. by_image (held (history_of past disk.calls)) sources.told (from.reads.settled past can) from.asks.settled where
+      by_image : (image : List ℕ) (t : Option (List Stored)) → Settles disk_refusal (seen_of request.sector request.empty image) (Ok planned.seen)
           → IfSome t (λ files. Settles source_refusal (Ok (facts request.seed files planned.seen.shown list)) (Ok from.known))
-          → IfSome o (λ h. IfSome t (λ files. planned_of request list (held h) files ≡ Ok planned))
-      by_both None t image settles = tt
-      by_both (Some h) None image settles = tt
-      by_both (Some h) (Some files) image settles =
+          → IfSome t (λ files. planned_of request list image files ≡ Ok planned)
+      by_image image None sees settles = tt
+      by_image image (Some files) sees settles =
           ap (λ (r : Result Seen Refusal). and_then r (λ s. planned_unless (must_repair request.size s) request list files s))
-          (settled_ok disk_refusal (seen_of request.sector request.empty (held h)) planned.seen image)
+          (settled_ok disk_refusal (seen_of request.sector request.empty image) planned.seen sees)
           ∙ ap (λ (b : Bool). planned_unless b request list files planned.seen) from.repaired
           ∙ ap (planned_by request list planned.seen) (same_facts from.known (facts request.seed files planned.seen.shown list) settles)
           ∙ from.is

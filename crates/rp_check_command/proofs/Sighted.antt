@@ -9,13 +9,14 @@ use Rattle.rp_base.specs.declared.seen.Origin.TheVariants as origins
 use Rattle.rp_base.specs.declared.seen.Seen.{Seen}
 use Rattle.rp_base.specs.declared.table.Table.{Table}
 use Rattle.rp_disk.specs.History.{History, held}
+use Rattle.rp_disk.specs.Made.{Made, Past, history_of, history_told}
 use Rattle.rp_gpt.specs.Mbr.{foreign_type}
 use Rattle.rp_gpt.specs.Shown.{Told, shows, refuses, nothing, accepted, accepted_as, accepted_blank, accepted_table, blank, holds_exact, origin_of, seen_of, shown, table_fault, unless, wider_copy}
 use Rattle.rp_gpt.specs.declared.table_fault.Empty.{Empty}
 use Rattle.rp_gpt.specs.declared.table_fault.Empty.TheVariants.{Refuse, Allow, Require}
 use Rattle.rp_gpt.specs.declared.table_fault.TableFault.{TableFault}
 use Rattle.rp_gpt.specs.declared.table_fault.TableFault.TheVariants as faults
-use Rattle.rp_outcome.specs.Device.{Device, IsOnlyRead, history}
+use Rattle.rp_outcome.specs.Device.{Device, IsOnlyRead, Known}
 use Rattle.rp_outcome.specs.Refusals.{Refusal, disk_refusal, table_refusal}
 use Rattle.rp_planned.specs.Planning.{ReadsImage, seen_of as sight_of}
 use Rattle.rp_reading.specs.Stages.{Settles, refused}
@@ -109,17 +110,16 @@ settled_ok failure ideal value (inr (inr e)) = absurd (cc)
 
 -- the length of an image that was read
 pub image_len : (sector : ℕ) (empty : Empty) (disk later : Device) (seen : Seen) → IsSector sector → ReadsImage sector empty disk later (Ok seen)
-    → IfSome (history disk) (λ h. length (held h) ≡ 512 * seen.sectors)
-image_len sector empty disk later seen is reads = go (history disk) reads.settled where
-  go : (o : Option History) → IfSome o (λ h. Settles disk_refusal (sight_of sector empty (held h)) (Ok seen))
-      → IfSome o (λ h. length (held h) ≡ 512 * seen.sectors)
-  go None settles = tt
-  go (Some h) settles = accepted_len sector (held h) empty seen is
-      (accepted_of (accepted sector (held h) empty) seen (settled_ok disk_refusal (sight_of sector empty (held h)) seen settles))
+    → Known disk later (λ h. length (held h) ≡ 512 * seen.sectors)
+image_len sector empty disk later seen is reads = λ past can.
+    let image = held (history_of past disk.calls) in
+    accepted_len sector image empty seen is
+    (accepted_of (accepted sector image empty) seen (settled_ok disk_refusal (sight_of sector empty image) seen (reads.settled past can)))
 
--- a disk that was only read tells what it told
-pub still_told : (P : History → Type 0) (before now : Device) → IsOnlyRead before now → IfSome (history before) P → IfSome (history now) P
-still_told P before now only p = rw (only.first, only.calls) p
+-- a disk that was only read holds what it held
+pub still_known : (P : History → Type 0) (before now : Device) → IsOnlyRead before now → Known before now P → Known now now P
+still_known P before now only known = λ past can. subst (λ (calls : List Made). P (history_of past calls)) (sym only.calls) (known past can)
 
-pub told_before : (P : History → Type 0) (before now : Device) → IsOnlyRead before now → IfSome (history now) P → IfSome (history before) P
-told_before P before now only p = rw (only.first, only.calls) at p
+pub told_before : (P : History → Type 0) (told : Option Past) (before now : Device) → IsOnlyRead before now
+    → IfSome (history_told told now.calls) P → IfSome (history_told told before.calls) P
+told_before P told before now only p = subst (λ (calls : List Made). IfSome (history_told told calls) P) only.calls p

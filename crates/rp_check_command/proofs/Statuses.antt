@@ -10,9 +10,11 @@ use Rattle.rp_defs.specs.declared.definition.Definitions.{Definitions}
 use Rattle.rp_difference.specs.Difference.{difference}
 use Rattle.rp_difference.specs.declared.difference.Difference.{Difference}
 use Rattle.rp_disk.specs.History.{History, held}
+use Rattle.rp_disk.specs.Made.{history_told}
+use Rattle.rp_disk.proofs.Noting.{known_told, possible_before}
 use Rattle.rp_io.specs.Files.{Tree}
 use Rattle.rp_io.specs.declared.stored.Stored.{Stored}
-use Rattle.rp_outcome.specs.Device.{Device, IsOnlyRead, history}
+use Rattle.rp_outcome.specs.Device.{Device, IsOnlyRead}
 use Rattle.rp_outcome.specs.Output.{Output, Prints, Refuses}
 use Rattle.rp_outcome.specs.Refusals.{Refusal, disk_refusal, folder_refusal, memory_refusal, source_refusal}
 use Rattle.rp_outcome.specs.Store.{Store}
@@ -90,12 +92,13 @@ module _ (seed : Guid) (arch : Arch) (sector : ℕ) (dirs : List (List ℕ)) (fo
         ∙ settled_ok disk_refusal (Ok (difference (held h) arch planned.seen planned.plan)) found compared
 
     says : (found : Option Difference) → Finds arch planned seen later (Ok found)
-        → WhereTold folders disk sources (λ tree image files. told_difference seed arch sector dirs tree image files ≡ Ok found)
-    says found finds =
-        all_told found folders.told (history disk) sources.told reads.settled
-        (planned_told (check_request seed arch sector) definitions.list disk seen sources drained planned from)
-        (told_before (λ h. Settles disk_refusal (Ok (difference (held h) arch planned.seen planned.plan)) (Ok found)) disk seen from.reads.only_read
-        finds.settled)
+        → WhereTold folders disk later sources (λ tree image files. told_difference seed arch sector dirs tree image files ≡ Ok found)
+    says found finds = λ o can.
+        let P : History → Type 0 = λ h. Settles disk_refusal (Ok (difference (held h) arch planned.seen planned.plan)) (Ok found) in
+        all_told found folders.told (history_told o disk.calls) sources.told reads.settled
+        (known_told o disk seen _ (planned_told (check_request seed arch sector) definitions.list disk seen sources drained planned from)
+        (possible_before o finds.only_read.earlier can))
+        (told_before P o disk seen from.reads.only_read (known_told o seen later P finds.settled can))
 
     -- the disk's count as it was before, where it is as it was in between
     kept_twice : later.faults ≡ seen.faults → later.faults ≡ disk.faults

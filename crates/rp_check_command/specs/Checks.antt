@@ -1,5 +1,5 @@
 -- What `check` does.
-use Rattle.std.specs.Prelude.{ℕ, ◌≡◌, ◌⊎◌, List, Option, Some, None, Result, Ok, Err, IfOk, IfErr, IfSome}
+use Rattle.std.specs.Prelude.{ℕ, ◌≡◌, ◌⊎◌, List, Option, Some, None, Result, Ok, Err, IfOk, IfErr}
 use Rattle.rp_base.specs.declared.guid.Guid.{Guid}
 use Rattle.rp_check_command.specs.Reports.{difference_line, same_line}
 use Rattle.rp_defs.specs.declared.definition.Definitions.{Definitions}
@@ -9,7 +9,7 @@ use Rattle.rp_disk.specs.History.{held}
 use Rattle.rp_gpt.specs.declared.table_fault.Empty.TheVariants.{Refuse}
 use Rattle.rp_io.specs.Files.{Tree}
 use Rattle.rp_io.specs.declared.stored.Stored.{Stored}
-use Rattle.rp_outcome.specs.Device.{Device, IsOnlyRead, history}
+use Rattle.rp_outcome.specs.Device.{Device, IsOnlyRead, Known}
 use Rattle.rp_outcome.specs.Output.{Output, Differs, Finishes, Refuses}
 use Rattle.rp_outcome.specs.Refusals.{Refusal, disk_refusal, memory_refusal}
 use Rattle.rp_outcome.specs.Store.{Store}
@@ -24,12 +24,12 @@ use Rattle.rp_types.specs.declared.arch.Arch.{Arch}
 abbrev pub check_request : Guid → Arch → ℕ → Request
 check_request seed arch sector = record { seed = seed; arch = arch; empty = Refuse; size = 0; sector = sector }
 
--- the image on a disk was compared with what is planned for it, and nothing was asked of the disk but to read: the first difference where
--- the disk tells its bytes, but for a failure of the disk, which it counted, and want of memory. Over every disk it is that of copies, MBR,
--- table and rows by what was seen of the image, where they differ
+-- the image on a disk was compared with what is planned for it, and nothing was asked of the disk but to read: the first difference of
+-- each past that the disk can have, but for a failure of the disk, which it counted, and want of memory. It is that of copies, MBR, table
+-- and rows by what was seen of the image, where they differ
 pub record Finds (arch : Arch) (planned : Planned) (before now : Device) (answer : Result (Option Difference) Refusal) : Type 0 where
   pub only_read : IsOnlyRead before now
-  pub settled : IfSome (history before) (λ h. Settles disk_refusal (Ok (difference (held h) arch planned.seen planned.plan)) answer)
+  pub settled : Known before now (λ h. Settles disk_refusal (Ok (difference (held h) arch planned.seen planned.plan)) answer)
   pub begins : IfOk answer (BeginsWith (table_difference planned.seen planned.plan))
   pub refusal : IfErr answer (λ refusal. (refusal ≡ disk_refusal) ⊎ (refusal ≡ memory_refusal))
   pub cause : HasStageCause disk_refusal before.faults now.faults answer

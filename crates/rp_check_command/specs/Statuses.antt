@@ -25,7 +25,7 @@ told_difference seed arch sector dirs tree image files =
     and_then (told_plan (check_request seed arch sector) dirs tree image files) (λ told.
     Ok (difference image arch told.1.seen told.1.plan))
 
--- by what folders, disk and sources tell, where they do: 0, nothing differs, as was printed; 1, the first difference was printed; 9, a part
+-- by what folders and sources tell, where they do, and each past that the disk can have: 0, nothing differs, as was printed; 1, the first difference was printed; 9, a part
 -- of either, for the sink failed; 3, 4 and 5, the line of the first refusal, which has that status; 7 and 8 come only where the disk, the
 -- folders or the sources counted a failure, and the line says so; 10, want of memory, and nothing was printed
 pub record CheckByStatus (seed : Guid) (arch : Arch) (sector : ℕ) (dirs : List (List ℕ)) (folders read : Store Tree) (disk later : Device)
@@ -36,14 +36,14 @@ pub record CheckByStatus (seed : Guid) (arch : Arch) (sector : ℕ) (dirs : List
   pub one_of : IsRefused status ⊎ (status ≡ exit.done) ⊎ (status ≡ exit.differs) ⊎ (status ≡ exit.disk) ⊎ (status ≡ exit.files)
       ⊎ (status ≡ exit.sink)
       ⊎ (status ≡ exit.memory)
-  pub same : status ≡ exit.done → WhereTold folders disk sources (λ tree image files.
+  pub same : status ≡ exit.done → WhereTold folders disk later sources (λ tree image files.
       told_difference seed arch sector dirs tree image files ≡ Ok None) × PrintsAll out after same_line
-  pub other : status ≡ exit.differs → (found : Difference) × WhereTold folders disk sources (λ tree image files.
+  pub other : status ≡ exit.differs → (found : Difference) × WhereTold folders disk later sources (λ tree image files.
       told_difference seed arch sector dirs tree image files ≡ Ok (Some found)) × PrintsAll out after (difference_line found)
   pub kept : status ≡ exit.differs → (read.faults ≡ folders.faults) × (drained.faults ≡ sources.faults)
-  pub cut : status ≡ exit.sink → (found : Option Difference) × WhereTold folders disk sources (λ tree image files.
+  pub cut : status ≡ exit.sink → (found : Option Difference) × WhereTold folders disk later sources (λ tree image files.
       told_difference seed arch sector dirs tree image files ≡ Ok found) × PrintsPart out after (check_report found)
-  pub refused : IsRefused status → WhereTold folders disk sources (λ tree image files.
+  pub refused : IsRefused status → WhereTold folders disk later sources (λ tree image files.
       IsErrAnd (told_difference seed arch sector dirs tree image files)
       (λ refusal. (refusal.status ≡ status) × Prints out after (line_of refusal)))
   pub disk_line : status ≡ exit.disk → Prints out after (line_of disk_refusal)

@@ -1,11 +1,10 @@
-ghost use Rattle.std.specs.Prelude.{◌≡◌, ◌*◌, IfSome, length};
+ghost use Rattle.std.specs.Prelude.{◌≡◌, ◌*◌, length};
 ghost use Rattle.rp_base.specs.Geometry.{IsSector};
 ghost use Rattle.rp_check_command.specs.Checks.{Checks, ChecksPlanned, ChecksRead, check_request as check_request_of};
 ghost use Rattle.rp_defs.specs.WellFormed.{IsWellFormed};
+ghost use Rattle.rp_disk.specs.Device.{Known};
 ghost use Rattle.rp_disk.specs.History.{held};
-ghost use Rattle.rp_disk.specs.Made.{history_told};
 ghost use Rattle.rp_gpt.specs.Accepted.{IsSeen};
-ghost use Rattle.rp_outcome.specs.Device.{device};
 ghost use Rattle.rp_outcome.specs.Output.{output};
 ghost use Rattle.rp_outcome.specs.Store.{store};
 
@@ -41,7 +40,7 @@ pub fn check<D: Disk, F: Folders, S: Sources, K: Sink>(
     requires { IsSector sector }
     ensures { Checks seed arch sector dirs.now
         (store F.told F.faults F.strays folders.old) (store F.told F.faults F.strays folders.new)
-        (device D.first D.calls D.faults D.strays disk.old) (device D.first D.calls D.faults D.strays disk.new)
+        (D.device disk.old) (D.device disk.new)
         (store S.told S.faults S.strays sources.old) (store S.told S.faults S.strays sources.new)
         (output K.told K.faults out.old) (output K.told K.faults out.new) result }
 {
@@ -78,7 +77,7 @@ fn check_read<D: Disk, S: Sources, K: Sink>(
     requires size { request.size ≡ 0 }
     requires list { IsWellFormed definitions.now.list }
     ensures { ChecksRead request definitions.now
-        (device D.first D.calls D.faults D.strays disk.old) (device D.first D.calls D.faults D.strays disk.new)
+        (D.device disk.old) (D.device disk.new)
         (store S.told S.faults S.strays sources.old) (store S.told S.faults S.strays sources.new)
         (output K.told K.faults out.old) (output K.told K.faults out.new) result }
 {
@@ -98,9 +97,9 @@ fn check_planned<D: Disk, K: Sink>(
     out: &mut K,
 ) -> u8
     requires seen { IsSeen planned.now.seen.shown.sector planned.now.seen }
-    requires len { IfSome (history_told (D.first disk.old) (D.calls disk.old)) (λ h. length (held h) ≡ 512 * planned.now.seen.sectors) }
+    requires len { Known (D.device disk.old) (D.device disk.old) (λ h. length (held h) ≡ 512 * planned.now.seen.sectors) }
     ensures { ChecksPlanned arch
-        (device D.first D.calls D.faults D.strays disk.old) (device D.first D.calls D.faults D.strays disk.new)
+        (D.device disk.old) (D.device disk.new)
         (output K.told K.faults out.old) (output K.told K.faults out.new) result (Ok planned.now) }
 {
     let Ok(mut room) = vec![in alloc; 0; ROOM] else {

@@ -4,13 +4,14 @@ use Rattle.std.specs.Prelude.{length}
 use Rattle.rp_apply_command.proofs.Ended.{ends_idle, ends_so}
 use Rattle.rp_apply_command.proofs.Moments.{leaves_all}
 use Rattle.rp_apply_command.proofs.Runs.{made_none}
-use Rattle.rp_apply_command.specs.Ends.{Ends, IsBefore, IsBehind, IsBetween, IsGoalOf, LeavesAll, StopsExactly, StopsSafely}
+use Rattle.rp_apply_command.specs.Ends.{Ends, IsBefore, IsBehind, IsBetween, LeavesAll, StopsExactly}
 use Rattle.rp_apply_command.specs.Ends.Ends.{before, behind, broken, between}
 use Rattle.rp_base.specs.Geometry.{IsSector}
 use Rattle.rp_cli.specs.Applied.{AppliesAsked, IsApplied, IsSafeThroughout, WritesNothingIdle}
 use Rattle.rp_defs.specs.declared.definition.Definitions.{Definitions}
+use Rattle.rp_disk.specs.Device.{CanHave}
 use Rattle.rp_disk.specs.History.{held}
-use Rattle.rp_disk.specs.Made.{history_of}
+use Rattle.rp_disk.specs.Made.{Past, history_of}
 use Rattle.rp_disk.specs.Runs.{MadeFirst}
 use Rattle.rp_disk.specs.declared.call.Call.{Call}
 use Rattle.rp_disk.specs.declared.call.Call.TheVariants.{Sync}
@@ -60,11 +61,6 @@ before_between n (inr (inr a)) (inr (inl b)) = absurd (omega (arith, a, b))
 before_between n (inr (inr a)) (inr (inr (inl b))) = absurd (omega (arith, a, b))
 before_between n (inr (inr a)) (inr (inr (inr b))) = absurd (omega (arith, a, b))
 
--- what holds of what an option has, whatever it is
-where_some : {A : Type 0} (o : Option A) (P : A → Type 0) → ((a : A) → o ≡ Some a → P a) → IfSome o P
-where_some None P each = tt
-where_some (Some a) P each = each a refl
-
 module _ (request : Request) (json : Bool) (dirs : List (List ℕ)) (folders read : Store Tree) (disk later : Device)
     (sources drained : Store (List Stored)) (out after : Output) (status : ℕ) (sector : IsSector request.sector) (size : IsSize request.size)
   where
@@ -78,20 +74,12 @@ module _ (request : Request) (json : Bool) (dirs : List (List ℕ)) (folders rea
     unasked : later ≡ disk → LeavesAll disk later
     unasked same = leaves_all disk later (subst (λ (d : Device). MadeFirst disk.calls (Sync ∷ []) d.calls) (sym same) (made_none disk.calls (Sync ∷ [])))
 
-    -- the plan that was carried out is the goal
-    of_goal : (definitions : Definitions) (planned : Planned) (body : List Call) (o : Option (List ℕ))
-        → IfSome o (StopsSafely request definitions.list disk later planned body)
-        → IfSome o (λ bytes. IsGoalOf request definitions.list (held (history_of bytes disk.calls)) planned)
-    of_goal definitions planned body None stops = tt
-    of_goal definitions planned body (Some bytes) stops = stops.goal
-
-    -- and by what the sources tell
-    of_exact : (definitions : Definitions) (planned : Planned) (calls : List Call) (o : Option (List ℕ)) (s : Option (List Stored))
-        → IfSome o (λ bytes. IfSome s (StopsExactly request definitions.list disk later planned calls bytes))
-        → IfSome o (λ bytes. IfSome s (λ files. planned_of request definitions.list (held (history_of bytes disk.calls)) files ≡ Ok planned))
-    of_exact definitions planned calls None s stops = tt
-    of_exact definitions planned calls (Some bytes) None stops = tt
-    of_exact definitions planned calls (Some bytes) (Some files) stops = stops.goal
+    -- the plan that was carried out is the goal by what the sources tell
+    of_exact : (definitions : Definitions) (planned : Planned) (calls : List Call) (past : Past) (s : Option (List Stored))
+        → IfSome s (StopsExactly request definitions.list disk later planned calls past)
+        → IfSome s (λ files. planned_of request definitions.list (held (history_of past disk.calls)) files ≡ Ok planned)
+    of_exact definitions planned calls past None stops = tt
+    of_exact definitions planned calls past (Some files) stops = stops.goal
 
     pub apply_applied : Asked → IsBehind status → IsApplied request dirs folders disk later sources
     apply_applied (inr (same, refuses)) is = done_before status (inr (inr (inr refuses.answers))) is
@@ -100,15 +88,16 @@ module _ (request : Request) (json : Bool) (dirs : List (List ℕ)) (folders rea
           by_end : End → IsApplied request dirs folders disk later sources
           by_end (before at leaves) = done_before status at is
           by_end (broken at leaves) = done_between status at is
-          by_end (between at definitions planned calls are some refusal cause refuses) = done_between status at is
-          by_end (behind at definitions planned calls are all finishes) = record {
+          by_end (between at definitions planned are some refusal cause refuses) = done_between status at is
+          by_end (behind at definitions planned are all finishes) = record {
             definitions = definitions;
             planned = planned;
             read = are;
-            goal = of_goal definitions planned all.some.are.body disk.first all.some.stops;
-            exact_goal = of_exact definitions planned calls disk.first sources.told all.some.stops_exactly;
-            shows_goal = all.ends;
-            holds_contents = all.ends_exactly;
+            goal = λ past can. (all (Some past) can).1.some.stops.goal;
+            exact_goal = λ past can.
+                of_exact definitions planned (all (Some past) can).0 past sources.told (all (Some past) can).1.some.stops_exactly;
+            shows_goal = λ past can. (all (Some past) can).1.ends;
+            holds_contents = λ past can. (all (Some past) can).1.ends_exactly;
           }
 
     pub apply_safe : Asked → IsSafeThroughout request dirs folders disk later sources
@@ -118,8 +107,9 @@ module _ (request : Request) (json : Bool) (dirs : List (List ℕ)) (folders rea
           by_end : End → IsSafeThroughout request dirs folders disk later sources
           by_end (before at leaves) = inl leaves
           by_end (broken at leaves) = inl leaves
-          by_end (behind at definitions planned calls are all finishes) = inr (definitions, planned, calls, are, all.some)
-          by_end (between at definitions planned calls are some refusal cause refuses) = inr (definitions, planned, calls, are, some)
+          by_end (behind at definitions planned are all finishes) =
+              inr (definitions, planned, are, λ o can. ((all o can).0, (all o can).1.some))
+          by_end (between at definitions planned are some refusal cause refuses) = inr (definitions, planned, are, some)
 
     pub apply_refused : Asked → IsBefore status → LeavesAll disk later
     apply_refused (inr (same, refuses)) is = unasked same.1
@@ -128,17 +118,23 @@ module _ (request : Request) (json : Bool) (dirs : List (List ℕ)) (folders rea
           by_end : End → LeavesAll disk later
           by_end (before at leaves) = leaves
           by_end (broken at leaves) = leaves
-          by_end (behind at definitions planned calls are all finishes) = done_before status is at
-          by_end (between at definitions planned calls are some refusal cause refuses) = before_between status at is
+          by_end (behind at definitions planned are all finishes) = done_before status is at
+          by_end (between at definitions planned are some refusal cause refuses) = before_between status at is
 
     pub apply_idle : Asked → WritesNothingIdle request dirs folders disk later
-    apply_idle asked = where_some disk.first _ (λ bytes first. where_some folders.told _ (λ tree told definitions are idle long.
-        by_asked bytes first tree told definitions are idle long asked)) where
-          by_asked : (bytes : List ℕ) → disk.first ≡ Some bytes → (tree : Tree) → folders.told ≡ Some tree → (definitions : Definitions)
-              → definitions_in request.arch tree dirs ≡ Ok definitions
-              → IsIdle request.sector (held (history_of bytes disk.calls)) definitions.list request.seed
-              → request.size ≤ length (held (history_of bytes disk.calls)) → Asked → MadeFirst disk.calls (Sync ∷ []) later.calls
-          by_asked bytes first tree told definitions are idle long (inr (same, refuses)) = (unasked same.1).made
-          by_asked bytes first tree told definitions are idle long (inl applies) =
-              ends_idle request json dirs folders read disk later sources drained out after status sector size.whole size.most applies
-              bytes tree definitions first told are idle long
+    apply_idle asked past can = by_folders folders.told refl where
+      by_asked : (tree : Tree) → folders.told ≡ Some tree → (definitions : Definitions)
+          → definitions_in request.arch tree dirs ≡ Ok definitions
+          → IsIdle request.sector (held (history_of past disk.calls)) definitions.list request.seed
+          → request.size ≤ length (held (history_of past disk.calls)) → Asked → MadeFirst disk.calls (Sync ∷ []) later.calls
+      by_asked tree told definitions are idle long (inr (same, refuses)) = (unasked same.1).made
+      by_asked tree told definitions are idle long (inl applies) =
+          ends_idle request json dirs folders read disk later sources drained out after status sector size.whole size.most applies
+          past tree definitions can told are idle long
+
+      by_folders : (o : Option Tree) → folders.told ≡ o → IfSome o (λ tree. (definitions : Definitions)
+          → definitions_in request.arch tree dirs ≡ Ok definitions
+          → IsIdle request.sector (held (history_of past disk.calls)) definitions.list request.seed
+          → request.size ≤ length (held (history_of past disk.calls)) → MadeFirst disk.calls (Sync ∷ []) later.calls)
+      by_folders None told = tt
+      by_folders (Some tree) told = λ definitions are idle long. by_asked tree told definitions are idle long asked

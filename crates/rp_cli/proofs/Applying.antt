@@ -6,7 +6,6 @@ use Rattle.rp_cli.proofs.Promised.{clash, plan_words}
 use Rattle.rp_cli.specs.Applied.{AppliesAsked}
 use Rattle.rp_cli.specs.Holds.{Holds}
 use Rattle.rp_defs.specs.declared.definition.Definitions.{Definitions}
-use Rattle.rp_disk.specs.declared.call.Call.{Call}
 use Rattle.rp_io.specs.Files.{Tree}
 use Rattle.rp_io.specs.declared.stored.Stored.{Stored}
 use Rattle.rp_outcome.specs.Causes.{HasCauses}
@@ -160,13 +159,13 @@ module _ (request : Request) (json : Bool) (dirs : List (List ℕ)) (folders gon
       stores_kept : (gone.faults ≡ folders.faults) × (asked.faults ≡ sources.faults)
       stores_kept = (by_status request json dirs folders gone opened read sources asked silent silent 0 planned_so).files.kept refl
 
-      by_commit : (calls : List Call) (answer : Outcome) → CarriesOut definitions planned read later asked drained calls answer
+      by_commit : (answer : Outcome) → CarriesOut definitions planned read later asked drained answer
           → Tells json definitions planned out after status answer → All
-      by_commit calls (Ok done) carries finishes =
+      by_commit (Ok done) carries finishes =
           by_finish (applied_report json definitions planned)
           (kept_ok disk_refusal read.faults later.faults done carries.cause.of_disk ∙ read_kept) stores_kept.0
           (kept_ok source_refusal asked.faults drained.faults done carries.cause.of_sources ∙ stores_kept.1) finishes
-      by_commit calls (Err refusal) carries refuses = go carries.refusal where
+      by_commit (Err refusal) carries refuses = go carries.refusal where
         go : IsCommitRefusal planned refusal → All
         go (inl failed) =
             by_disk (subst (λ (n : ℕ). Rose n later.faults) read_kept (carries.cause.of_disk.failed (ap Err failed)))
@@ -182,29 +181,29 @@ module _ (request : Request) (json : Bool) (dirs : List (List ℕ)) (folders gon
             (kept_err disk_refusal refusal read.faults later.faults carries.cause.of_disk (λ f. absurd (omega (arith, e, f))) ∙ read_kept)
             (refuses.answers ∙ e)
 
-    by_plan : (calls : List Call) (answer : Result Planned Refusal) → PlansImage request definitions.list opened read sources asked answer
-        → AppliesPlanned json definitions read later asked drained out after status calls answer → All
-    by_plan calls (Err refusal) plans (same, same_sources, none, refuses) =
+    by_plan : (answer : Result Planned Refusal) → PlansImage request definitions.list opened read sources asked answer
+        → AppliesPlanned json definitions read later asked drained out after status answer → All
+    by_plan (Err refusal) plans (same, same_sources, refuses) =
         behind_sync same same_sources (Ok definitions, reads, (Err refusal, plans, refuses))
-    by_plan calls (Ok planned) plans (inl (same, same_sources, none, refuses)) =
+    by_plan (Ok planned) plans (inl (same, same_sources, refuses)) =
         behind_sync same same_sources (Ok definitions, reads, (Ok planned, plans, inr refuses))
-    by_plan calls (Ok planned) plans (inr (answer, carries, tells)) = by_commit planned plans calls answer carries tells
+    by_plan (Ok planned) plans (inr (answer, carries, tells)) = by_commit planned plans answer carries tells
 
   by_opening : (definitions : Definitions) → ReadsDefinitions request.arch dirs folders gone (Ok definitions) → (opened : Device)
-      (calls : List Call) (answer : Outcome) → Opens disk opened answer
-      → AppliesOpened request json definitions opened later sources drained out after status calls answer → All
-  by_opening definitions reads opened calls (Err refusal) opens (same, same_sources, none, refuses) =
+      (answer : Outcome) → Opens disk opened answer
+      → AppliesOpened request json definitions opened later sources drained out after status answer → All
+  by_opening definitions reads opened (Err refusal) opens (same, same_sources, refuses) =
       by_disk (subst (λ (d : Device). Rose disk.faults d.faults) (sym same) (opens.cause.failed (ap Err opens.refusal)))
       (refuses.answers ∙ ap (λ (r : Refusal). r.status) opens.refusal)
-  by_opening definitions reads opened calls (Ok done) opens (read, asked, answer, plans, fits, applies) =
-      by_plan definitions reads opened (kept_ok disk_refusal disk.faults opened.faults done opens.cause) read asked calls answer plans applies
+  by_opening definitions reads opened (Ok done) opens (read, asked, answer, plans, fits, applies) =
+      by_plan definitions reads opened (kept_ok disk_refusal disk.faults opened.faults done opens.cause) read asked answer plans applies
 
-  by_definitions : (calls : List Call) (answer : Result Definitions Refusal) → ReadsDefinitions request.arch dirs folders gone answer
-      → AppliesBehind request json disk later sources drained out after status calls answer → All
-  by_definitions calls (Err refusal) reads (same, same_sources, none, refuses) = as_plan (Err refusal, reads, (same, same_sources, refuses))
-  by_definitions calls (Ok definitions) reads (opened, answer, opens, applies) = by_opening definitions reads opened calls answer opens applies
+  by_definitions : (answer : Result Definitions Refusal) → ReadsDefinitions request.arch dirs folders gone answer
+      → AppliesBehind request json disk later sources drained out after status answer → All
+  by_definitions (Err refusal) reads (same, same_sources, refuses) = as_plan (Err refusal, reads, (same, same_sources, refuses))
+  by_definitions (Ok definitions) reads (opened, answer, opens, applies) = by_opening definitions reads opened answer opens applies
 
   pub apply_holds : AppliesAsked request json dirs folders gone disk later sources drained out after status → All
-  apply_holds (inl (calls, (definitions, reads, behind))) = by_definitions calls definitions reads behind
+  apply_holds (inl (definitions, reads, behind)) = by_definitions definitions reads behind
   apply_holds (inr ((same_folders, same, same_sources), refuses)) =
       by_other 10 (omega arith) (ap (λ (d : Device). d.faults) same) refuses.answers

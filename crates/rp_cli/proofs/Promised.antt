@@ -3,6 +3,7 @@ use Rattle.std.proofs.Common.{ℕ, ◌≡◌, ◌⊎◌, List, Bool, Option, Som
 use Rattle.rp_base.specs.declared.guid.Guid.{Guid}
 use Rattle.rp_check_command.proofs.Statuses.{by_status as check_by_status}
 use Rattle.rp_cli.specs.Asked.{ChecksAsked, PlansAsked}
+use Rattle.rp_disk.proofs.Noting.{earlier_same}
 use Rattle.rp_io.specs.Files.{Tree}
 use Rattle.rp_io.specs.declared.stored.Stored.{Stored}
 use Rattle.rp_outcome.specs.Causes.{HasCauses}
@@ -23,10 +24,7 @@ clash status a b e f differ = absurd (differ (sym e ∙ f))
 
 -- a disk that wasn't asked was read alone
 pub not_asked : (disk later : Device) → later ≡ disk → IsOnlyRead disk later
-not_asked disk later same = subst (IsOnlyRead disk) (sym same) (record { first = refl; calls = refl; strays = unmoved disk.first }) where
-  unmoved : (o : Option (List ℕ)) → IfSome o (λ _. disk.strays ≡ disk.strays)
-  unmoved None = tt
-  unmoved (Some bytes) = refl
+not_asked disk later same = subst (IsOnlyRead disk) (sym same) (record { calls = refl; earlier = earlier_same disk; inside = λ past can. refl })
 
 -- folders and sources that weren't asked have no failure, at any status but theirs
 pub unasked_files : (folders : Store Tree) (sources : Store (List Stored)) (out after : Output) (status : ℕ) → (status ≡ 8 → ⊥)

@@ -39,8 +39,8 @@ unasked_holds folders read disk later sources drained out after status same ten 
 -- where all was carried out, its first calls were
 some_of : (request : Request) (list : List Definition) (disk later : Device) (sources : Store (List Stored)) (renewal : Renewal) (o : Option Plan)
     → CarriesAllBy request list disk later sources renewal o → CarriesSomeBy request list disk later sources renewal o
-some_of request list disk later sources renewal None (none, calls, all) = (none, calls, all.some)
-some_of request list disk later sources renewal (Some reset) (first, second, all) = (first, second, all.some)
+some_of request list disk later sources renewal None (none, all) = (none, λ o can. ((all o can).0, (all o can).1.some))
+some_of request list disk later sources renewal (Some reset) all = λ o can. ((all o can).0, (all o can).1, (all o can).2.some)
 
 module _ (request : Request) (json : Bool) (dirs : List (List ℕ)) (folders read : Store Tree) (disk later : Device)
     (sources drained : Store (List Stored)) (out after : Output) (status : ℕ) where

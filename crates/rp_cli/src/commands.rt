@@ -10,7 +10,7 @@ ghost use Rattle.rp_make_command.specs.Ends.{MakeEnds};
 ghost use Rattle.rp_make_command.specs.Makes.{Makes};
 ghost use Rattle.rp_make_promise.specs.Promise.{MakePromise};
 ghost use Rattle.rp_outcome.specs.Causes.{HasCauses};
-ghost use Rattle.rp_outcome.specs.Device.{IsOnlyRead, device};
+ghost use Rattle.rp_outcome.specs.Device.{IsOnlyRead};
 ghost use Rattle.rp_outcome.specs.Output.{Refuses, output};
 ghost use Rattle.rp_outcome.specs.Refusals.{words_refusal};
 ghost use Rattle.rp_outcome.specs.Store.{store};
@@ -58,13 +58,13 @@ pub fn run<D: Disk, F: Folders, S: Sources, K: Sink>(
         → Refuses (output K.told K.faults out.old) (output K.told K.faults out.new) words_refusal result
         × AreAllAsBefore
         (store F.told F.faults F.strays folders.old) (store F.told F.faults F.strays folders.new)
-        (device D.first D.calls D.faults D.strays disk.old) (device D.first D.calls D.faults D.strays disk.new)
+        (D.device disk.old) (D.device disk.new)
         (store S.told S.faults S.strays sources.old) (store S.told S.faults S.strays sources.new) }
     // `show` reads the table and prints it, or the line of the first refusal; folders and sources are as before (a read that succeeds
     // leaves no trace).
     ensures show { IfOk (line_of (map string_bytes words.now)) (λ line. line.command ≡ Command.Show
         → Shows line.sector line.json
-        (device D.first D.calls D.faults D.strays disk.old) (device D.first D.calls D.faults D.strays disk.new)
+        (D.device disk.old) (D.device disk.new)
         (output K.told K.faults out.old) (output K.told K.faults out.new) result
         × AreAsBefore
         (store F.told F.faults F.strays folders.old) (store F.told F.faults F.strays folders.new)
@@ -73,14 +73,14 @@ pub fn run<D: Disk, F: Folders, S: Sources, K: Sink>(
     ensures plan { IfOk (line_of (map string_bytes words.now)) (λ line. line.command ≡ Command.Plan → line.factory_reset ≡ false
         → PlansAsked (request_of_line line) line.json (paths_of (text_in Opt.Definitions (map string_bytes words.now)))
         (store F.told F.faults F.strays folders.old) (store F.told F.faults F.strays folders.new)
-        (device D.first D.calls D.faults D.strays disk.old) (device D.first D.calls D.faults D.strays disk.new)
+        (D.device disk.old) (D.device disk.new)
         (store S.told S.faults S.strays sources.old) (store S.told S.faults S.strays sources.new)
         (output K.told K.faults out.old) (output K.told K.faults out.new) result) }
     // With `--factory-reset=on` it plans to take rows out of the table first, and then plans for what that leaves.
     ensures plan_reset { IfOk (line_of (map string_bytes words.now)) (λ line. line.command ≡ Command.Plan → line.factory_reset ≡ true
         → PlansResetAsked (request_of_line line) line.json (paths_of (text_in Opt.Definitions (map string_bytes words.now)))
         (store F.told F.faults F.strays folders.old) (store F.told F.faults F.strays folders.new)
-        (device D.first D.calls D.faults D.strays disk.old) (device D.first D.calls D.faults D.strays disk.new)
+        (D.device disk.old) (D.device disk.new)
         (store S.told S.faults S.strays sources.old) (store S.told S.faults S.strays sources.new)
         (output K.told K.faults out.old) (output K.told K.faults out.new) result) }
     // `apply` reads definitions, syncs the disk, plans as `plan` does, takes all memory, carries the plan out by the calls
@@ -88,28 +88,28 @@ pub fn run<D: Disk, F: Folders, S: Sources, K: Sink>(
     ensures apply { IfOk (line_of (map string_bytes words.now)) (λ line. line.command ≡ Command.Apply → line.factory_reset ≡ false
         → AppliesAsked (request_of_line line) line.json (paths_of (text_in Opt.Definitions (map string_bytes words.now)))
         (store F.told F.faults F.strays folders.old) (store F.told F.faults F.strays folders.new)
-        (device D.first D.calls D.faults D.strays disk.old) (device D.first D.calls D.faults D.strays disk.new)
+        (D.device disk.old) (D.device disk.new)
         (store S.told S.faults S.strays sources.old) (store S.told S.faults S.strays sources.new)
         (output K.told K.faults out.old) (output K.told K.faults out.new) result) }
     // With `--factory-reset=on` both plans are made and all memory is taken before the first write, and then the calls of both are made.
     ensures apply_reset { IfOk (line_of (map string_bytes words.now)) (λ line. line.command ≡ Command.Apply → line.factory_reset ≡ true
         → AppliesResetAsked (request_of_line line) line.json (paths_of (text_in Opt.Definitions (map string_bytes words.now)))
         (store F.told F.faults F.strays folders.old) (store F.told F.faults F.strays folders.new)
-        (device D.first D.calls D.faults D.strays disk.old) (device D.first D.calls D.faults D.strays disk.new)
+        (D.device disk.old) (D.device disk.new)
         (store S.told S.faults S.strays sources.old) (store S.told S.faults S.strays sources.new)
         (output K.told K.faults out.old) (output K.told K.faults out.new) result) }
     // `check` plans for the image's own length and prints the first difference from the image, or that there is none.
     ensures check { IfOk (line_of (map string_bytes words.now)) (λ line. line.command ≡ Command.Check
         → ChecksAsked line.seed line.arch line.sector (paths_of (text_in Opt.Definitions (map string_bytes words.now)))
         (store F.told F.faults F.strays folders.old) (store F.told F.faults F.strays folders.new)
-        (device D.first D.calls D.faults D.strays disk.old) (device D.first D.calls D.faults D.strays disk.new)
+        (D.device disk.old) (D.device disk.new)
         (store S.told S.faults S.strays sources.old) (store S.told S.faults S.strays sources.new)
         (output K.told K.faults out.old) (output K.told K.faults out.new) result) }
     // `make` makes the input of its number, syncs the disk, grows the image to 1 GiB, carries out what is planned for it, looks for what it
     // differs in and prints a summary; folders and sources that are handed in are as before (a read that succeeds leaves no trace).
     ensures make { IfOk (line_of (map string_bytes words.now)) (λ line. line.command ≡ Command.Make
         → Makes line.number
-        (device D.first D.calls D.faults D.strays disk.old) (device D.first D.calls D.faults D.strays disk.new)
+        (D.device disk.old) (D.device disk.new)
         (output K.told K.faults out.old) (output K.told K.faults out.new) result
         × AreAsBefore
         (store F.told F.faults F.strays folders.old) (store F.told F.faults F.strays folders.new)
@@ -117,7 +117,7 @@ pub fn run<D: Disk, F: Folders, S: Sources, K: Sink>(
     // `dissect` reads the policy, then the image, and prints the verdict on each designator, or which one is denied.
     ensures dissect { IfOk (line_of (map string_bytes words.now)) (λ line. line.command ≡ Command.Dissect
         → Dissects (text_in Opt.Policy (map string_bytes words.now)) line.arch line.sector line.json
-        (device D.first D.calls D.faults D.strays disk.old) (device D.first D.calls D.faults D.strays disk.new)
+        (D.device disk.old) (D.device disk.new)
         (output K.told K.faults out.old) (output K.told K.faults out.new) result
         × AreAsBefore
         (store F.told F.faults F.strays folders.old) (store F.told F.faults F.strays folders.new)
@@ -129,7 +129,7 @@ pub fn run<D: Disk, F: Folders, S: Sources, K: Sink>(
         (output K.told K.faults out.old) (output K.told K.faults out.new) result
         × AreAllAsBefore
         (store F.told F.faults F.strays folders.old) (store F.told F.faults F.strays folders.new)
-        (device D.first D.calls D.faults D.strays disk.old) (device D.first D.calls D.faults D.strays disk.new)
+        (D.device disk.old) (D.device disk.new)
         (store S.told S.faults S.strays sources.old) (store S.told S.faults S.strays sources.new)) }
     // `compare` prints whether one policy allows what the other denies, and what; folders, disk and sources are as before (a read that
     // succeeds leaves no trace).
@@ -138,7 +138,7 @@ pub fn run<D: Disk, F: Folders, S: Sources, K: Sink>(
         (output K.told K.faults out.old) (output K.told K.faults out.new) result
         × AreAllAsBefore
         (store F.told F.faults F.strays folders.old) (store F.told F.faults F.strays folders.new)
-        (device D.first D.calls D.faults D.strays disk.old) (device D.first D.calls D.faults D.strays disk.new)
+        (D.device disk.old) (D.device disk.new)
         (store S.told S.faults S.strays sources.old) (store S.told S.faults S.strays sources.new)) }
 
     // What `apply` promises: where it answers 0, and at 9, the image's table is the goal of its old table and the definitions, every old
@@ -147,7 +147,7 @@ pub fn run<D: Disk, F: Folders, S: Sources, K: Sink>(
         → IsBehind result
         → IsApplied (request_of_line line) (paths_of (text_in Opt.Definitions (map string_bytes words.now)))
         (store F.told F.faults F.strays folders.old)
-        (device D.first D.calls D.faults D.strays disk.old) (device D.first D.calls D.faults D.strays disk.new)
+        (D.device disk.old) (D.device disk.new)
         (store S.told S.faults S.strays sources.old)) }
     // With a factory reset its table is the goal of its reset table, which is the old one without the rows of definitions that say so,
     // and every partition of that keeps its place and bytes.
@@ -155,46 +155,46 @@ pub fn run<D: Disk, F: Folders, S: Sources, K: Sink>(
         → IsBehind result
         → IsRenewed (request_of_line line) (paths_of (text_in Opt.Definitions (map string_bytes words.now)))
         (store F.told F.faults F.strays folders.old)
-        (device D.first D.calls D.faults D.strays disk.old) (device D.first D.calls D.faults D.strays disk.new)
+        (D.device disk.old) (D.device disk.new)
         (store S.told S.faults S.strays sources.old)) }
     // A second run without reset writes nothing where none was dropped: such an image is idle.
     ensures second_run { IfOk (line_of (map string_bytes words.now)) (λ line. line.command ≡ Command.Apply → line.factory_reset ≡ false
         → WritesNothingIdle (request_of_line line) (paths_of (text_in Opt.Definitions (map string_bytes words.now)))
         (store F.told F.faults F.strays folders.old)
-        (device D.first D.calls D.faults D.strays disk.old) (device D.first D.calls D.faults D.strays disk.new)) }
+        (D.device disk.old) (D.device disk.new)) }
     // Stopped at any moment, the image shows the old table or the goal with all that.
     ensures any_moment { IfOk (line_of (map string_bytes words.now)) (λ line. line.command ≡ Command.Apply → line.factory_reset ≡ false
         → IsSafeThroughout (request_of_line line) (paths_of (text_in Opt.Definitions (map string_bytes words.now)))
         (store F.told F.faults F.strays folders.old)
-        (device D.first D.calls D.faults D.strays disk.old) (device D.first D.calls D.faults D.strays disk.new)
+        (D.device disk.old) (D.device disk.new)
         (store S.told S.faults S.strays sources.old)) }
     // Stopped at any moment of a factory reset, it shows the old, the reset or the goal table with all that.
     ensures any_moment_of_reset { IfOk (line_of (map string_bytes words.now)) (λ line. line.command ≡ Command.Apply
         → line.factory_reset ≡ true
         → IsRenewedSafely (request_of_line line) (paths_of (text_in Opt.Definitions (map string_bytes words.now)))
         (store F.told F.faults F.strays folders.old)
-        (device D.first D.calls D.faults D.strays disk.old) (device D.first D.calls D.faults D.strays disk.new)
+        (D.device disk.old) (D.device disk.new)
         (store S.told S.faults S.strays sources.old)) }
-    // What `make` promises: over a disk that tells its bytes, the image is made wherever it may be and no call fails, and differs in
+    // What `make` promises: of each past that the disk can have, the image is made wherever it may be and no call fails, and differs in
     // nothing from what is planned for it again; at 0 the summary has the rows, the writes and the root hash; a stop at any moment
     // leaves the image as it could have been at the start, in its growth, or with no table or the goal. Over every disk 8 never comes.
     ensures made { IfOk (line_of (map string_bytes words.now)) (λ line. line.command ≡ Command.Make
         → MakePromise line.number
-        (device D.first D.calls D.faults D.strays disk.old) (device D.first D.calls D.faults D.strays disk.new)
+        (D.device disk.old) (D.device disk.new)
         (output K.told K.faults out.old) (output K.told K.faults out.new) result) }
     // What is refused for definitions, image, demand or want of memory changes nothing.
     ensures untouched { IfOk (line_of (map string_bytes words.now)) (λ line. line.command ≡ Command.Apply → IsBefore result
         → LeavesAll
-        (device D.first D.calls D.faults D.strays disk.old) (device D.first D.calls D.faults D.strays disk.new)) }
+        (D.device disk.old) (D.device disk.new)) }
 
     // Every command but `apply` and `make` only reads: no call may change the disk.
     ensures only_read { IfOk (line_of (map string_bytes words.now)) (λ line. (line.command ≢ Command.Apply) × (line.command ≢ Command.Make))
         → IsOnlyRead
-        (device D.first D.calls D.faults D.strays disk.old) (device D.first D.calls D.faults D.strays disk.new) }
+        (D.device disk.old) (D.device disk.new) }
     // Status 7 comes only where the disk counted a failed call, and at each other status it counted none; 9 comes only where the sink
     // counted one, and at 0 it counted none.
     ensures causes { HasCauses
-        (device D.first D.calls D.faults D.strays disk.old) (device D.first D.calls D.faults D.strays disk.new)
+        (D.device disk.old) (D.device disk.new)
         (output K.told K.faults out.old) (output K.told K.faults out.new) result }
     // Status 8 comes only where the folders or the sources counted a failed call, and its line says which; at 0 neither counted one.
     ensures files { HasFileCauses
@@ -229,7 +229,7 @@ fn run_check<D: Disk, F: Folders, S: Sources, K: Sink>(
     requires { IsSector line.sector }
     ensures { ChecksAsked line.seed line.arch line.sector (paths_of (text_in Opt.Definitions (map string_bytes words.now)))
         (store F.told F.faults F.strays folders.old) (store F.told F.faults F.strays folders.new)
-        (device D.first D.calls D.faults D.strays disk.old) (device D.first D.calls D.faults D.strays disk.new)
+        (D.device disk.old) (D.device disk.new)
         (store S.told S.faults S.strays sources.old) (store S.told S.faults S.strays sources.new)
         (output K.told K.faults out.old) (output K.told K.faults out.new) result }
 {
@@ -259,7 +259,7 @@ fn run_dissect<D: Disk, K: Sink>(
 ) -> u8
     requires { IsSector line.sector }
     ensures { Dissects (text_in Opt.Policy (map string_bytes words.now)) line.arch line.sector line.json
-        (device D.first D.calls D.faults D.strays disk.old) (device D.first D.calls D.faults D.strays disk.new)
+        (D.device disk.old) (D.device disk.new)
         (output K.told K.faults out.old) (output K.told K.faults out.new) result }
 {
     let text = text_of(Opt::Policy, words);
@@ -268,13 +268,13 @@ fn run_dissect<D: Disk, K: Sink>(
 
 fn run_make<D: Disk, K: Sink>(alloc: Global, number: u8, disk: &mut D, out: &mut K) -> u8
     ensures makes { Makes number
-        (device D.first D.calls D.faults D.strays disk.old) (device D.first D.calls D.faults D.strays disk.new)
+        (D.device disk.old) (D.device disk.new)
         (output K.told K.faults out.old) (output K.told K.faults out.new) result }
     ensures ends { MakeEnds
-        (device D.first D.calls D.faults D.strays disk.old) (device D.first D.calls D.faults D.strays disk.new)
+        (D.device disk.old) (D.device disk.new)
         (output K.told K.faults out.old) (output K.told K.faults out.new) result }
     ensures promise { number ≤ 100 → MakePromise number
-        (device D.first D.calls D.faults D.strays disk.old) (device D.first D.calls D.faults D.strays disk.new)
+        (D.device disk.old) (D.device disk.new)
         (output K.told K.faults out.old) (output K.told K.faults out.new) result }
     ensures files { number ≤ 100 → result ≢ 8 }
 {

@@ -7,7 +7,7 @@ ghost use Rattle.rp_cli.specs.Applied.{AppliesAsked, IsApplied, IsSafeThroughout
 ghost use Rattle.rp_cli.specs.Asked.{PlansAsked, request_of as request_of_line};
 ghost use Rattle.rp_cli.specs.Holds.{Holds};
 ghost use Rattle.rp_cli.specs.Resetting.{AppliesResetAsked, IsRenewed, IsRenewedSafely, PlansResetAsked};
-ghost use Rattle.rp_outcome.specs.Device.{IsOnlyRead, device};
+ghost use Rattle.rp_outcome.specs.Device.{IsOnlyRead};
 ghost use Rattle.rp_outcome.specs.Output.{output};
 ghost use Rattle.rp_outcome.specs.Store.{store};
 ghost use Rattle.rp_words.specs.Line.{text_in};
@@ -39,20 +39,20 @@ pub(crate) fn plan_by_line<D: Disk, F: Folders, S: Sources, K: Sink>(
     ensures off { line.factory_reset ≡ false
         → PlansAsked (request_of_line line) line.json (paths_of (text_in Opt.Definitions (map string_bytes words.now)))
         (store F.told F.faults F.strays folders.old) (store F.told F.faults F.strays folders.new)
-        (device D.first D.calls D.faults D.strays disk.old) (device D.first D.calls D.faults D.strays disk.new)
+        (D.device disk.old) (D.device disk.new)
         (store S.told S.faults S.strays sources.old) (store S.told S.faults S.strays sources.new)
         (output K.told K.faults out.old) (output K.told K.faults out.new) result }
     ensures on { line.factory_reset ≡ true
         → PlansResetAsked (request_of_line line) line.json (paths_of (text_in Opt.Definitions (map string_bytes words.now)))
         (store F.told F.faults F.strays folders.old) (store F.told F.faults F.strays folders.new)
-        (device D.first D.calls D.faults D.strays disk.old) (device D.first D.calls D.faults D.strays disk.new)
+        (D.device disk.old) (D.device disk.new)
         (store S.told S.faults S.strays sources.old) (store S.told S.faults S.strays sources.new)
         (output K.told K.faults out.old) (output K.told K.faults out.new) result }
     ensures only_read { IsOnlyRead
-        (device D.first D.calls D.faults D.strays disk.old) (device D.first D.calls D.faults D.strays disk.new) }
+        (D.device disk.old) (D.device disk.new) }
     ensures holds { Holds
         (store F.told F.faults F.strays folders.old) (store F.told F.faults F.strays folders.new)
-        (device D.first D.calls D.faults D.strays disk.old) (device D.first D.calls D.faults D.strays disk.new)
+        (D.device disk.old) (D.device disk.new)
         (store S.told S.faults S.strays sources.old) (store S.told S.faults S.strays sources.new)
         (output K.told K.faults out.old) (output K.told K.faults out.new) result }
 {
@@ -76,7 +76,7 @@ fn run_plan_reset<D: Disk, F: Folders, S: Sources, K: Sink>(
     requires size { IsSize line.size }
     ensures { PlansResetAsked (request_of_line line) line.json (paths_of (text_in Opt.Definitions (map string_bytes words.now)))
         (store F.told F.faults F.strays folders.old) (store F.told F.faults F.strays folders.new)
-        (device D.first D.calls D.faults D.strays disk.old) (device D.first D.calls D.faults D.strays disk.new)
+        (D.device disk.old) (D.device disk.new)
         (store S.told S.faults S.strays sources.old) (store S.told S.faults S.strays sources.new)
         (output K.told K.faults out.old) (output K.told K.faults out.new) result }
 {
@@ -111,44 +111,44 @@ pub(crate) fn apply_by_line<D: Disk, F: Folders, S: Sources, K: Sink>(
     ensures apply { line.factory_reset ≡ false
         → AppliesAsked (request_of_line line) line.json (paths_of (text_in Opt.Definitions (map string_bytes words.now)))
         (store F.told F.faults F.strays folders.old) (store F.told F.faults F.strays folders.new)
-        (device D.first D.calls D.faults D.strays disk.old) (device D.first D.calls D.faults D.strays disk.new)
+        (D.device disk.old) (D.device disk.new)
         (store S.told S.faults S.strays sources.old) (store S.told S.faults S.strays sources.new)
         (output K.told K.faults out.old) (output K.told K.faults out.new) result }
     ensures reset { line.factory_reset ≡ true
         → AppliesResetAsked (request_of_line line) line.json (paths_of (text_in Opt.Definitions (map string_bytes words.now)))
         (store F.told F.faults F.strays folders.old) (store F.told F.faults F.strays folders.new)
-        (device D.first D.calls D.faults D.strays disk.old) (device D.first D.calls D.faults D.strays disk.new)
+        (D.device disk.old) (D.device disk.new)
         (store S.told S.faults S.strays sources.old) (store S.told S.faults S.strays sources.new)
         (output K.told K.faults out.old) (output K.told K.faults out.new) result }
     ensures applied { line.factory_reset ≡ false → IsBehind result
         → IsApplied (request_of_line line) (paths_of (text_in Opt.Definitions (map string_bytes words.now)))
         (store F.told F.faults F.strays folders.old)
-        (device D.first D.calls D.faults D.strays disk.old) (device D.first D.calls D.faults D.strays disk.new)
+        (D.device disk.old) (D.device disk.new)
         (store S.told S.faults S.strays sources.old) }
     ensures renewed { line.factory_reset ≡ true → IsBehind result
         → IsRenewed (request_of_line line) (paths_of (text_in Opt.Definitions (map string_bytes words.now)))
         (store F.told F.faults F.strays folders.old)
-        (device D.first D.calls D.faults D.strays disk.old) (device D.first D.calls D.faults D.strays disk.new)
+        (D.device disk.old) (D.device disk.new)
         (store S.told S.faults S.strays sources.old) }
     ensures second_run { line.factory_reset ≡ false
         → WritesNothingIdle (request_of_line line) (paths_of (text_in Opt.Definitions (map string_bytes words.now)))
         (store F.told F.faults F.strays folders.old)
-        (device D.first D.calls D.faults D.strays disk.old) (device D.first D.calls D.faults D.strays disk.new) }
+        (D.device disk.old) (D.device disk.new) }
     ensures any_moment { line.factory_reset ≡ false
         → IsSafeThroughout (request_of_line line) (paths_of (text_in Opt.Definitions (map string_bytes words.now)))
         (store F.told F.faults F.strays folders.old)
-        (device D.first D.calls D.faults D.strays disk.old) (device D.first D.calls D.faults D.strays disk.new)
+        (D.device disk.old) (D.device disk.new)
         (store S.told S.faults S.strays sources.old) }
     ensures any_moment_of_reset { line.factory_reset ≡ true
         → IsRenewedSafely (request_of_line line) (paths_of (text_in Opt.Definitions (map string_bytes words.now)))
         (store F.told F.faults F.strays folders.old)
-        (device D.first D.calls D.faults D.strays disk.old) (device D.first D.calls D.faults D.strays disk.new)
+        (D.device disk.old) (D.device disk.new)
         (store S.told S.faults S.strays sources.old) }
     ensures untouched { IsBefore result → LeavesAll
-        (device D.first D.calls D.faults D.strays disk.old) (device D.first D.calls D.faults D.strays disk.new) }
+        (D.device disk.old) (D.device disk.new) }
     ensures holds { Holds
         (store F.told F.faults F.strays folders.old) (store F.told F.faults F.strays folders.new)
-        (device D.first D.calls D.faults D.strays disk.old) (device D.first D.calls D.faults D.strays disk.new)
+        (D.device disk.old) (D.device disk.new)
         (store S.told S.faults S.strays sources.old) (store S.told S.faults S.strays sources.new)
         (output K.told K.faults out.old) (output K.told K.faults out.new) result }
 {
@@ -172,23 +172,23 @@ fn run_apply_reset<D: Disk, F: Folders, S: Sources, K: Sink>(
     requires size { IsSize line.size }
     ensures reset { AppliesResetAsked (request_of_line line) line.json (paths_of (text_in Opt.Definitions (map string_bytes words.now)))
         (store F.told F.faults F.strays folders.old) (store F.told F.faults F.strays folders.new)
-        (device D.first D.calls D.faults D.strays disk.old) (device D.first D.calls D.faults D.strays disk.new)
+        (D.device disk.old) (D.device disk.new)
         (store S.told S.faults S.strays sources.old) (store S.told S.faults S.strays sources.new)
         (output K.told K.faults out.old) (output K.told K.faults out.new) result }
     ensures renewed { IsBehind result
         → IsRenewed (request_of_line line) (paths_of (text_in Opt.Definitions (map string_bytes words.now)))
         (store F.told F.faults F.strays folders.old)
-        (device D.first D.calls D.faults D.strays disk.old) (device D.first D.calls D.faults D.strays disk.new)
+        (D.device disk.old) (D.device disk.new)
         (store S.told S.faults S.strays sources.old) }
     ensures any_moment { IsRenewedSafely (request_of_line line) (paths_of (text_in Opt.Definitions (map string_bytes words.now)))
         (store F.told F.faults F.strays folders.old)
-        (device D.first D.calls D.faults D.strays disk.old) (device D.first D.calls D.faults D.strays disk.new)
+        (D.device disk.old) (D.device disk.new)
         (store S.told S.faults S.strays sources.old) }
     ensures untouched { IsBefore result → LeavesAll
-        (device D.first D.calls D.faults D.strays disk.old) (device D.first D.calls D.faults D.strays disk.new) }
+        (D.device disk.old) (D.device disk.new) }
     ensures holds { Holds
         (store F.told F.faults F.strays folders.old) (store F.told F.faults F.strays folders.new)
-        (device D.first D.calls D.faults D.strays disk.old) (device D.first D.calls D.faults D.strays disk.new)
+        (D.device disk.old) (D.device disk.new)
         (store S.told S.faults S.strays sources.old) (store S.told S.faults S.strays sources.new)
         (output K.told K.faults out.old) (output K.told K.faults out.new) result }
 {
@@ -209,7 +209,7 @@ fn apply_reset_asked<D: Disk, F: Folders, S: Sources, K: Sink>(
     requires size { IsSize line.size }
     ensures { AppliesResetAsked (request_of_line line) line.json (paths_of (text_in Opt.Definitions (map string_bytes words.now)))
         (store F.told F.faults F.strays folders.old) (store F.told F.faults F.strays folders.new)
-        (device D.first D.calls D.faults D.strays disk.old) (device D.first D.calls D.faults D.strays disk.new)
+        (D.device disk.old) (D.device disk.new)
         (store S.told S.faults S.strays sources.old) (store S.told S.faults S.strays sources.new)
         (output K.told K.faults out.old) (output K.told K.faults out.new) result }
 {
@@ -243,7 +243,7 @@ fn run_plan<D: Disk, F: Folders, S: Sources, K: Sink>(
     requires size { IsSize line.size }
     ensures { PlansAsked (request_of_line line) line.json (paths_of (text_in Opt.Definitions (map string_bytes words.now)))
         (store F.told F.faults F.strays folders.old) (store F.told F.faults F.strays folders.new)
-        (device D.first D.calls D.faults D.strays disk.old) (device D.first D.calls D.faults D.strays disk.new)
+        (D.device disk.old) (D.device disk.new)
         (store S.told S.faults S.strays sources.old) (store S.told S.faults S.strays sources.new)
         (output K.told K.faults out.old) (output K.told K.faults out.new) result }
 {
@@ -277,25 +277,25 @@ fn run_apply<D: Disk, F: Folders, S: Sources, K: Sink>(
     requires size { IsSize line.size }
     ensures apply { AppliesAsked (request_of_line line) line.json (paths_of (text_in Opt.Definitions (map string_bytes words.now)))
         (store F.told F.faults F.strays folders.old) (store F.told F.faults F.strays folders.new)
-        (device D.first D.calls D.faults D.strays disk.old) (device D.first D.calls D.faults D.strays disk.new)
+        (D.device disk.old) (D.device disk.new)
         (store S.told S.faults S.strays sources.old) (store S.told S.faults S.strays sources.new)
         (output K.told K.faults out.old) (output K.told K.faults out.new) result }
     ensures applied { IsBehind result → IsApplied (request_of_line line) (paths_of (text_in Opt.Definitions (map string_bytes words.now)))
         (store F.told F.faults F.strays folders.old)
-        (device D.first D.calls D.faults D.strays disk.old) (device D.first D.calls D.faults D.strays disk.new)
+        (D.device disk.old) (D.device disk.new)
         (store S.told S.faults S.strays sources.old) }
     ensures second_run { WritesNothingIdle (request_of_line line) (paths_of (text_in Opt.Definitions (map string_bytes words.now)))
         (store F.told F.faults F.strays folders.old)
-        (device D.first D.calls D.faults D.strays disk.old) (device D.first D.calls D.faults D.strays disk.new) }
+        (D.device disk.old) (D.device disk.new) }
     ensures any_moment { IsSafeThroughout (request_of_line line) (paths_of (text_in Opt.Definitions (map string_bytes words.now)))
         (store F.told F.faults F.strays folders.old)
-        (device D.first D.calls D.faults D.strays disk.old) (device D.first D.calls D.faults D.strays disk.new)
+        (D.device disk.old) (D.device disk.new)
         (store S.told S.faults S.strays sources.old) }
     ensures untouched { IsBefore result → LeavesAll
-        (device D.first D.calls D.faults D.strays disk.old) (device D.first D.calls D.faults D.strays disk.new) }
+        (D.device disk.old) (D.device disk.new) }
     ensures holds { Holds
         (store F.told F.faults F.strays folders.old) (store F.told F.faults F.strays folders.new)
-        (device D.first D.calls D.faults D.strays disk.old) (device D.first D.calls D.faults D.strays disk.new)
+        (D.device disk.old) (D.device disk.new)
         (store S.told S.faults S.strays sources.old) (store S.told S.faults S.strays sources.new)
         (output K.told K.faults out.old) (output K.told K.faults out.new) result }
 {
@@ -316,7 +316,7 @@ fn apply_asked<D: Disk, F: Folders, S: Sources, K: Sink>(
     requires size { IsSize line.size }
     ensures { AppliesAsked (request_of_line line) line.json (paths_of (text_in Opt.Definitions (map string_bytes words.now)))
         (store F.told F.faults F.strays folders.old) (store F.told F.faults F.strays folders.new)
-        (device D.first D.calls D.faults D.strays disk.old) (device D.first D.calls D.faults D.strays disk.new)
+        (D.device disk.old) (D.device disk.new)
         (store S.told S.faults S.strays sources.old) (store S.told S.faults S.strays sources.new)
         (output K.told K.faults out.old) (output K.told K.faults out.new) result }
 {

@@ -1,12 +1,7 @@
 -- Where the parts of copies lie.
 use Rattle.std.proofs.Common.{◌≡◌, ℕ, ◌+◌, ◌*◌, ◌≤◌, inl, inr, List, length, take, replicate, arith}
 use Rattle.std.proofs.lemmas.List.{take-replicate}
-use Rattle.std.proofs.lemmas.Bool.{le-ltb}
-use Rattle.std.specs.Prelude.{IfSome, Option, Some, None, nat_lt}
-use Rattle.rp_base.specs.Faults.{CountsStray}
 use Rattle.rp_base.specs.Geometry.{IsSector, array_sectors, copy_bytes}
-use Rattle.rp_disk.specs.History.{held}
-use Rattle.rp_disk.specs.Made.{Made, history_told}
 
 -- zeros for one sector
 pub zeros_cut : (sector : ℕ) → IsSector sector → take {A = ℕ} sector (replicate 4096 0) ≡ replicate {A = ℕ} sector 0
@@ -21,10 +16,3 @@ copy_long sector entries (inr is) = rw is (omega arith)
 pub array_size : (sector entries size : ℕ) → IsSector sector → size + sector ≡ copy_bytes entries sector → size ≡ sector * array_sectors sector entries
 array_size sector entries size (inl is) all = rw is (let a : size + 512 ≡ 512 * (1 + array_sectors 512 entries) = rw is at all in omega arith)
 array_size sector entries size (inr is) all = rw is (let a : size + 4096 ≡ 4096 * (1 + array_sectors 4096 entries) = rw is at all in omega arith)
-
--- a call that ends within a disk isn't stray
-pub stray_in : (first : Option (List ℕ)) (calls : List Made) (end n old new : ℕ) → end ≤ n
-    → IfSome (history_told first calls) (λ h. CountsStray (nat_lt (length (held h)) end) old new)
-    → IfSome (history_told first calls) (λ h. n ≤ length (held h) → new ≡ old)
-stray_in None calls end n old new within counts = tt
-stray_in (Some bytes) calls end n old new within counts = λ reaches. counts.kept (le-ltb _ _ (omega arith))

@@ -1,8 +1,8 @@
-ghost use Rattle.std.specs.Prelude.{◌≡◌, ◌+◌, ◌*◌, ◌^◌, ◌≤◌, ◌∷◌, [], IfSome, length};
+ghost use Rattle.std.specs.Prelude.{◌≡◌, ◌+◌, ◌*◌, ◌^◌, ◌≤◌, ◌∷◌, [], length};
 ghost use Rattle.rp_base.specs.Faults.{HasCause};
 ghost use Rattle.rp_base.specs.Geometry.{array_sectors as array_sectors_of, copy_bytes as copy_bytes_of};
+ghost use Rattle.rp_disk.specs.Device.{Earlier, StaysInsideWhere};
 ghost use Rattle.rp_disk.specs.History.{held};
-ghost use Rattle.rp_disk.specs.Made.{history_told};
 ghost use Rattle.rp_disk.specs.Runs.{Runs};
 ghost use Rattle.rp_gpt.specs.Copy.{exact};
 ghost use Rattle.rp_stops.specs.Order.{array_call, array_offset as array_offset_of, close_call, header_call, header_offset as header_offset_of, mbr_call, target_sectors as target_sectors_of};
@@ -16,11 +16,10 @@ use rp_gpt::mbr_bytes;
 /// Closes the header of a place: its sector is written with zeros.
 pub fn close_header<D: Disk>(disk: &mut D, plan: &Plan, which: Which) -> Result<(), Failed>
     requires { HasRoom plan.now }
-    ensures first { D.first disk.new ≡ D.first disk.old }
-    ensures ran { Runs (D.calls disk.old) (close_call plan.now which ∷ []) (D.calls disk.new) result }
-    ensures strays { IfSome (history_told (D.first disk.old) (D.calls disk.old)) (λ h. 512 * plan.now.target ≤ length (held h)
-        → D.strays disk.new ≡ D.strays disk.old) }
-    ensures cause { HasCause (D.faults disk.old) (D.faults disk.new) result }
+    ensures earlier { Earlier (D.device disk.old) (D.device disk.new) }
+    ensures ran { Runs (D.device disk.old).calls (close_call plan.now which ∷ []) (D.device disk.new).calls result }
+    ensures inside { StaysInsideWhere (D.device disk.old) (D.device disk.new) (λ h. 512 * plan.now.target ≤ length (held h)) }
+    ensures cause { HasCause (D.device disk.old).faults (D.device disk.new).faults result }
 {
     let sector = plan.goal.sector;
     let zeros = [0; 4096];
@@ -38,11 +37,10 @@ pub fn write_array<D: Disk>(
     requires room { HasRoom plan.now }
     requires size { length copy.now ≡ copy_bytes_of plan.now.goal.entries plan.now.goal.sector }
     requires copy { copy.now ≡ exact plan.now.goal which (target_sectors_of plan.now) }
-    ensures first { D.first disk.new ≡ D.first disk.old }
-    ensures ran { Runs (D.calls disk.old) (array_call plan.now which ∷ []) (D.calls disk.new) result }
-    ensures strays { IfSome (history_told (D.first disk.old) (D.calls disk.old)) (λ h. 512 * plan.now.target ≤ length (held h)
-        → D.strays disk.new ≡ D.strays disk.old) }
-    ensures cause { HasCause (D.faults disk.old) (D.faults disk.new) result }
+    ensures earlier { Earlier (D.device disk.old) (D.device disk.new) }
+    ensures ran { Runs (D.device disk.old).calls (array_call plan.now which ∷ []) (D.device disk.new).calls result }
+    ensures inside { StaysInsideWhere (D.device disk.old) (D.device disk.new) (λ h. 512 * plan.now.target ≤ length (held h)) }
+    ensures cause { HasCause (D.device disk.old).faults (D.device disk.new).faults result }
 {
     let array = array_of(copy, which, plan.goal.sector);
     disk.write(array_offset(plan, which), array)?;
@@ -59,11 +57,10 @@ pub fn write_header<D: Disk>(
     requires room { HasRoom plan.now }
     requires size { length copy.now ≡ copy_bytes_of plan.now.goal.entries plan.now.goal.sector }
     requires copy { copy.now ≡ exact plan.now.goal which (target_sectors_of plan.now) }
-    ensures first { D.first disk.new ≡ D.first disk.old }
-    ensures ran { Runs (D.calls disk.old) (header_call plan.now which ∷ []) (D.calls disk.new) result }
-    ensures strays { IfSome (history_told (D.first disk.old) (D.calls disk.old)) (λ h. 512 * plan.now.target ≤ length (held h)
-        → D.strays disk.new ≡ D.strays disk.old) }
-    ensures cause { HasCause (D.faults disk.old) (D.faults disk.new) result }
+    ensures earlier { Earlier (D.device disk.old) (D.device disk.new) }
+    ensures ran { Runs (D.device disk.old).calls (header_call plan.now which ∷ []) (D.device disk.new).calls result }
+    ensures inside { StaysInsideWhere (D.device disk.old) (D.device disk.new) (λ h. 512 * plan.now.target ≤ length (held h)) }
+    ensures cause { HasCause (D.device disk.old).faults (D.device disk.new).faults result }
 {
     let header = header_of(copy, which, plan.goal.sector);
     disk.write(header_offset(plan, which), header)?;
@@ -73,11 +70,10 @@ pub fn write_header<D: Disk>(
 /// Writes the record of the protective MBR and its signature (UEFI 2.10, 5.2.3).
 pub fn write_mbr<D: Disk>(disk: &mut D, plan: &Plan) -> Result<(), Failed>
     requires { HasRoom plan.now }
-    ensures first { D.first disk.new ≡ D.first disk.old }
-    ensures ran { Runs (D.calls disk.old) (mbr_call plan.now ∷ []) (D.calls disk.new) result }
-    ensures strays { IfSome (history_told (D.first disk.old) (D.calls disk.old)) (λ h. 512 * plan.now.target ≤ length (held h)
-        → D.strays disk.new ≡ D.strays disk.old) }
-    ensures cause { HasCause (D.faults disk.old) (D.faults disk.new) result }
+    ensures earlier { Earlier (D.device disk.old) (D.device disk.new) }
+    ensures ran { Runs (D.device disk.old).calls (mbr_call plan.now ∷ []) (D.device disk.new).calls result }
+    ensures inside { StaysInsideWhere (D.device disk.old) (D.device disk.new) (λ h. 512 * plan.now.target ≤ length (held h)) }
+    ensures cause { HasCause (D.device disk.old).faults (D.device disk.new).faults result }
 {
     disk.write(446, &mbr_bytes(target_sectors(plan)))?;
     Ok(())

@@ -1,7 +1,7 @@
-ghost use Rattle.std.specs.Prelude.{◌≡◌, ◌≤◌, ◌*◌, IfSome, IfOk, length};
+ghost use Rattle.std.specs.Prelude.{◌≡◌, ◌≤◌, ◌*◌, IfOk, length};
 ghost use Rattle.rp_base.specs.Faults.{HasCause};
+ghost use Rattle.rp_disk.specs.Device.{Earlier, Known, StaysInsideWhere};
 ghost use Rattle.rp_disk.specs.History.{held};
-ghost use Rattle.rp_disk.specs.Made.{history_told};
 ghost use Rattle.rp_difference.specs.Difference.{BeginsWith, difference, table_difference as table_difference_of};
 ghost use Rattle.rp_gpt.specs.Accepted.{IsSeen};
 
@@ -44,14 +44,13 @@ pub fn difference_of<D: Disk>(
 ) -> Result<Option<Difference>, Failed>
     requires seen { IsSeen seen.now.shown.sector seen.now }
     requires room { 24576 ≤ length room.old }
-    ensures first { D.first disk.new ≡ D.first disk.old }
-    ensures calls { D.calls disk.new ≡ D.calls disk.old }
-    ensures strays { IfSome (history_told (D.first disk.old) (D.calls disk.old)) (λ h. 512 * seen.now.sectors ≤ length (held h)
-        → D.strays disk.new ≡ D.strays disk.old) }
-    ensures answer { IfSome (history_told (D.first disk.old) (D.calls disk.old)) (λ h.
+    ensures earlier { Earlier (D.device disk.old) (D.device disk.new) }
+    ensures calls { (D.device disk.new).calls ≡ (D.device disk.old).calls }
+    ensures inside { StaysInsideWhere (D.device disk.old) (D.device disk.new) (λ h. 512 * seen.now.sectors ≤ length (held h)) }
+    ensures answer { Known (D.device disk.old) (D.device disk.new) (λ h.
         IfOk result (λ found. found ≡ difference (held h) arch seen.now plan.now)) }
     ensures table { IfOk result (BeginsWith (table_difference_of seen.now plan.now)) }
-    ensures cause { HasCause (D.faults disk.old) (D.faults disk.new) result }
+    ensures cause { HasCause (D.device disk.old).faults (D.device disk.new).faults result }
 {
     if let Some(found) = table_difference(seen, plan) {
         return Ok(Some(found));

@@ -3,8 +3,8 @@
 ghost use Rattle.std.specs.Prelude.{◌≡◌, ◌+◌, ◌*◌, ◌≤◌, ◌^◌, IfSome, IfOk, length};
 ghost use Rattle.std.specs.Option.{option_or};
 ghost use Rattle.rp_difference.specs.Difference.{IsOfTree, IsOfTrees, bad_of as bad_of_pair, tree_difference as tree_difference_of};
+ghost use Rattle.rp_disk.specs.Device.{Known};
 ghost use Rattle.rp_disk.specs.History.{held};
-ghost use Rattle.rp_disk.specs.Made.{history_told};
 ghost use Rattle.rp_gpt.specs.Accepted.{IsSeen};
 ghost use Rattle.rp_tree.specs.Reads.{Reads, ends_of};
 
@@ -24,9 +24,8 @@ pub(crate) fn trees_difference<D: Disk>(
 ) -> Result<Option<Difference>, Failed>
     requires seen { IsSeen seen.now.shown.sector seen.now }
     requires room { 24576 ≤ length room.old }
-    ensures reads { Reads (512 * seen.now.sectors) (D.first disk.old) (D.first disk.new) (D.calls disk.old) (D.calls disk.new)
-        (D.strays disk.old) (D.strays disk.new) (D.faults disk.old) (D.faults disk.new) result }
-    ensures found { IfSome (history_told (D.first disk.old) (D.calls disk.old)) (λ h. IfOk result (λ found.
+    ensures reads { Reads (512 * seen.now.sectors) (D.device disk.old) (D.device disk.new) result }
+    ensures found { Known (D.device disk.old) (D.device disk.new) (λ h. IfOk result (λ found.
         found ≡ option_or (tree_difference_of (held h) arch seen.now.shown.rows Designator.Root)
         (tree_difference_of (held h) arch seen.now.shown.rows Designator.Usr))) }
     ensures tree { IfOk result IsOfTrees }
@@ -47,9 +46,8 @@ fn tree_difference<D: Disk>(
 ) -> Result<Option<Difference>, Failed>
     requires seen { IsSeen seen.now.shown.sector seen.now }
     requires room { 24576 ≤ length room.old }
-    ensures reads { Reads (512 * seen.now.sectors) (D.first disk.old) (D.first disk.new) (D.calls disk.old) (D.calls disk.new)
-        (D.strays disk.old) (D.strays disk.new) (D.faults disk.old) (D.faults disk.new) result }
-    ensures found { IfSome (history_told (D.first disk.old) (D.calls disk.old)) (λ h. IfOk result (λ found.
+    ensures reads { Reads (512 * seen.now.sectors) (D.device disk.old) (D.device disk.new) result }
+    ensures found { Known (D.device disk.old) (D.device disk.new) (λ h. IfOk result (λ found.
         found ≡ tree_difference_of (held h) arch seen.now.shown.rows designator)) }
     ensures tree { IfOk result (λ found. IfSome found (IsOfTree designator)) }
 {
@@ -76,9 +74,8 @@ fn bad_of<D: Disk>(
     requires payload { payload.now.start + payload.now.size ≤ 2 ^ 35 }
     requires hash { hash.now.start + hash.now.size ≤ 2 ^ 35 }
     requires room { 24576 ≤ length room.old }
-    ensures reads { Reads (ends_of payload.now hash.now) (D.first disk.old) (D.first disk.new) (D.calls disk.old) (D.calls disk.new)
-        (D.strays disk.old) (D.strays disk.new) (D.faults disk.old) (D.faults disk.new) result }
-    ensures bad { IfSome (history_told (D.first disk.old) (D.calls disk.old))
+    ensures reads { Reads (ends_of payload.now hash.now) (D.device disk.old) (D.device disk.new) result }
+    ensures bad { Known (D.device disk.old) (D.device disk.new)
         (λ h. IfOk result (λ bad. bad ≡ bad_of_pair (held h) payload.now hash.now)) }
 {
     if payload.size < BLOCK_UNITS || hash.size < BLOCK_UNITS {

@@ -8,3 +8,7 @@ pub mod OneCall
 pub mod Law
 pub mod Opened
 pub mod Runs
+pub mod Noting
+mod Own
+pub mod OwnBytes
+pub mod Failing

@@ -1,6 +1,15 @@
 -- What a file as a disk is, from outside.
-use Rattle.std.specs.Prelude.{◌≡◌, ◌↔◌, None, false}
+use Rattle.std.specs.Prelude.{◌≡◌, ◌↔◌, [], None, false}
+use Rattle.rp_disk.specs.Device.{Device}
 use Rattle.rp_disk.specs.declared.file.FileDisk.{FileDisk}
+
+-- what it was asked and what it answered
+abbrev pub device_of : {F : Type 0} → FileDisk F → Device
+device_of disk = record { calls = disk.log.calls; answers = disk.log.answers; faults = disk.faults }
+
+-- nothing was asked yet
+abbrev pub fresh : Device
+fresh = record { calls = []; answers = []; faults = 0 }
 
 -- it couldn't be opened
 abbrev pub IsMissing : {F : Type 0} → FileDisk F → Type 0

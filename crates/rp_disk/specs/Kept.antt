@@ -2,23 +2,22 @@
 use Rattle.std.specs.Prelude.{ℕ, List, [], ◌∷◌, ◌+◌, ◌&&◌, nat_le, length, Bool, true, if◌then◌else◌}
 use Rattle.rp_disk.specs.declared.call.Call.{Call}
 use Rattle.rp_disk.specs.declared.call.Call.TheVariants.{Write, Sync, SetLen}
-use Rattle.rp_disk.specs.Calls.{done}
 use Rattle.rp_disk.specs.History.{History, Start, Did, Failed, held}
 use Rattle.rp_disk.specs.Made.{Made, Done, Broke}
 
--- a call with its answer, on a disk that shows these bytes: one that failed changed nothing
-abbrev pub answered : List ℕ → Call → Bool → Made
-answered image call ok = if ok then Done call else Broke call image
+-- a call with its answer
+abbrev pub answered : Call → Bool → Made
+answered call ok = if ok then Done call else Broke call
 
--- the history with one more such call
+-- the history with one more such call: one that failed changed nothing
 abbrev pub noted : History → Call → Bool → History
 noted history call ok = if ok then Did history call else Failed history call (held history)
 
--- calls with their answers, from a disk that shows these bytes on
-abbrev pub all_answered : List ℕ → List Call → List Bool → List Made
-all_answered image [] oks = []
-all_answered image (call ∷ calls) [] = []
-all_answered image (call ∷ calls) (ok ∷ oks) = answered image call ok ∷ all_answered (if ok then done image call else image) calls oks
+-- calls with their answers
+abbrev pub all_answered : List Call → List Bool → List Made
+all_answered [] oks = []
+all_answered (call ∷ calls) [] = []
+all_answered (call ∷ calls) (ok ∷ oks) = answered call ok ∷ all_answered calls oks
 
 -- the bytes at first of a disk that shows these: it keeps them only once it has made a call
 abbrev pub first_kept : List ℕ → List ℕ → List Call → List ℕ

@@ -5,7 +5,7 @@ use Rattle.rp_disk.specs.declared.call.Call.{Call}
 use Rattle.rp_disk.specs.declared.call.Call.TheVariants.{Write, Sync, SetLen}
 use Rattle.rp_disk.specs.Calls.{IsWithin}
 use Rattle.rp_disk.specs.History.{History, Start, Did, Failed, held, IsLawful}
-use Rattle.rp_disk.specs.Made.{after_made, history_of}
+use Rattle.rp_disk.specs.Made.{after_made, history_of, unharmed}
 use Rattle.rp_disk.specs.Kept.{fits, noted, writes_fit, all_answered, first_kept}
 
 -- the history with more calls and their answers
@@ -20,7 +20,7 @@ kept image first [] oks = Start image
 kept image first (call ∷ calls) oks = replayed (Start first) (call ∷ calls) oks
 
 pub after-answered : (history : History) (calls : List Call) (oks : List Bool)
-    → after_made history (all_answered (held history) calls oks) ≡ replayed history calls oks
+    → after_made (λ moment image. image) history (all_answered calls oks) ≡ replayed history calls oks
 after-answered history [] oks = refl
 after-answered history (call ∷ calls) [] = refl
 after-answered history (call ∷ calls) (true ∷ oks) = after-answered (Did history call) calls oks
@@ -28,7 +28,7 @@ after-answered history (call ∷ calls) (false ∷ oks) = after-answered (Failed
 
 -- the history of what is kept, call by call
 pub history-kept : (image first : List ℕ) (calls : List Call) (oks : List Bool)
-    → history_of (first_kept image first calls) (all_answered first calls oks) ≡ kept image first calls oks
+    → history_of (unharmed (first_kept image first calls)) (all_answered calls oks) ≡ kept image first calls oks
 history-kept image first [] oks = refl
 history-kept image first (call ∷ calls) oks = after-answered (Start first) (call ∷ calls) oks
 
@@ -76,8 +76,8 @@ lawful_kept image first [] oks fit = tt
 lawful_kept image first (call ∷ calls) oks fit = lawful_replayed (Start first) (call ∷ calls) oks tt fit
 
 pub kept_lawful : (image first : List ℕ) (calls : List Call) (oks : List Bool)
-    → writes_fit (history_of (first_kept image first calls) (all_answered first calls oks)) ≡ true
-    → IsLawful (history_of (first_kept image first calls) (all_answered first calls oks))
+    → writes_fit (history_of (unharmed (first_kept image first calls)) (all_answered calls oks)) ≡ true
+    → IsLawful (history_of (unharmed (first_kept image first calls)) (all_answered calls oks))
 kept_lawful image first calls oks =
     let P : History → Type 0 = λ h. writes_fit h ≡ true → IsLawful h in
     subst P (sym (history-kept image first calls oks)) (lawful_kept image first calls oks)

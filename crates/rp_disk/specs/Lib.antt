@@ -4,12 +4,14 @@ pub mod Blocks
 pub mod Ranges
 pub mod History
 pub mod Made
+pub mod Device
 pub mod MadeCode
 pub mod Noted
 pub mod Runs
 pub mod MemDisk
 pub mod FileDisk
 pub mod Files
+pub mod Told
 pub mod Kept
 pub mod KeptLawful
 pub mod Record

@@ -2,9 +2,10 @@
 use Rattle.std.specs.Prelude.{ℕ, List, [], ◌∷◌, ◌++◌, ◌≡◌, ◌+◌, ◌-◌, ◌^◌, ◌⊎◌, ◌<◌, min, Result, OnOk, OnErr, Contains}
 use Rattle.rp_disk.specs.declared.call.Call.{Call}
 use Rattle.rp_disk.specs.declared.mem.MemDisk.{MemDisk}
-use Rattle.rp_disk.specs.History.{History, held}
-use Rattle.rp_disk.specs.Made.{Made, Done, Broke}
-use Rattle.rp_disk.specs.Record.{first_bytes, recorded, history_kept}
+use Rattle.rp_disk.specs.Device.{Device}
+use Rattle.rp_disk.specs.History.{History}
+use Rattle.rp_disk.specs.Made.{Made, Done, Broke, Past}
+use Rattle.rp_disk.specs.Record.{first_bytes, recorded, past_kept, history_kept}
 
 -- its bytes at first
 abbrev pub first : MemDisk → List ℕ
@@ -13,6 +14,10 @@ first disk = first_bytes disk.bytes.items disk.notes
 -- its calls with their answers
 abbrev pub calls : MemDisk → List Made
 calls disk = recorded disk.notes
+
+-- its past: a call that failed changed nothing
+abbrev pub own : MemDisk → Past
+own disk = past_kept disk.bytes.items disk.notes
 
 -- its history, which is these two
 abbrev pub history : MemDisk → History
@@ -26,9 +31,9 @@ starved disk = disk.starved
 abbrev pub faults_of : MemDisk → ℕ
 faults_of disk = disk.faults
 
--- how many of its calls passed the end
-abbrev pub strays_of : MemDisk → ℕ
-strays_of disk = disk.strays
+-- what it was asked and what it answered
+abbrev pub device_of : MemDisk → Device
+device_of disk = record { calls = recorded disk.notes; answers = disk.log.answers; faults = disk.faults }
 
 -- how many calls it has answered
 abbrev pub made : MemDisk → ℕ
@@ -75,7 +80,7 @@ pub record Records {T E : Type 0} (old new : MemDisk) (call : Call) (fits : Type
   pub starved : starved new ≡ starved old
   pub exact : FailsExactly old new fits result
   pub done : OnOk result (calls new ≡ calls old ++ Done call ∷ [])
-  pub failed : OnErr result (calls new ≡ calls old ++ Broke call (held (history old)) ∷ [])
+  pub failed : OnErr result (calls new ≡ calls old ++ Broke call ∷ [])
 
 -- a changing call is numbered, and finds memory or not
 pub record Changes {T E : Type 0} (old new : MemDisk) (call : Call) (fits : Type 0) (result : Result T E) : Type 0 where

@@ -1,18 +1,18 @@
 -- What functions that make calls on a disk say of them.
-use Rattle.std.specs.Prelude.{List, [], ℕ, ◌∷◌, ◌++◌, ◌≡◌, ◌⊎◌, ◌<◌, length, Option, IfSome, Result, OnOk, OnErr}
+use Rattle.std.specs.Prelude.{List, [], ℕ, ◌∷◌, ◌++◌, ◌≡◌, ◌⊎◌, ◌<◌, length, Result, OnOk, OnErr}
 use Rattle.rp_disk.specs.declared.call.Call.{Call}
 use Rattle.rp_disk.specs.declared.call.Call.TheVariants.{Sync}
 use Rattle.rp_disk.specs.Calls.{all_done}
 use Rattle.rp_disk.specs.Stops.{Leaves, IsFrontOf}
 use Rattle.rp_disk.specs.History.{History, Failed, IsSettled, MayLeave, LeftSince, held, moment, all_did, and_failed}
-use Rattle.rp_disk.specs.Made.{Made, Done, Broke, dones, count_done, history_of}
+use Rattle.rp_disk.specs.Made.{Made, Done, Broke, Past, dones, count_done, history_of}
 
 -- the first of the planned calls, each done whole but perhaps the last, which failed
 abbrev pub AreFirst : List Made → List Call → Type 0
 AreFirst [] plan = Unit {0}
 AreFirst (made ∷ mades) [] = ⊥
 AreFirst (Done call ∷ mades) (due ∷ plan) = (call ≡ due) × AreFirst mades plan
-AreFirst (Broke call after ∷ mades) (due ∷ plan) = (call ≡ due) × (mades ≡ [])
+AreFirst (Broke call ∷ mades) (due ∷ plan) = (call ≡ due) × (mades ≡ [])
 
 -- since the old calls the first of the planned ones were made
 abbrev pub MadeFirst : List Made → List Call → List Made → Type 0
@@ -33,22 +33,22 @@ Went start calls now = (now ≡ all_did start calls)
     ⊎ ((made : List Call) × (last : Call) × (after : List ℕ) × (calls ≡ and_failed made last)
     × (now ≡ Failed (all_did start made) last after))
 
--- where a disk tells: from a start where nothing was pending, at any moment since, the calls made by then are the first of
--- the planned, and a stop leaves what it may leave of them on the bytes shown at the start
-abbrev pub AtAnyMoment : Option (List ℕ) → List Made → List Call → List Made → Type 0
-AtAnyMoment first old plan new = IfSome first (λ bytes. IsSettled (history_of bytes old)
-    → (made : List Call) (image : List ℕ) → LeftSince (history_of bytes new) (moment (history_of bytes old)) made image
-    → IsFrontOf made plan × Leaves (held (history_of bytes old)) made image)
+-- whatever a disk held: from a start where nothing was pending, at any moment since, the calls made by then are the first
+-- of the planned, and a stop leaves what it may leave of them on the bytes shown at the start
+abbrev pub AtAnyMoment : List Made → List Call → List Made → Type 0
+AtAnyMoment old plan new = (past : Past) → IsSettled (history_of past old)
+    → (made : List Call) (image : List ℕ) → LeftSince (history_of past new) (moment (history_of past old)) made image
+    → IsFrontOf made plan × Leaves (held (history_of past old)) made image
 
 -- the same of a sync and then the planned, from any start: the image could have been left at the start already, or that
 -- sync was done, and the calls behind it are the first of the planned
-abbrev pub AtAnyMomentBehindSync : Option (List ℕ) → List Made → List Call → List Made → Type 0
-AtAnyMomentBehindSync first old plan new = IfSome first (λ bytes.
-    (made : List Call) (image : List ℕ) → LeftSince (history_of bytes new) (moment (history_of bytes old)) made image
-    → MayLeave (history_of bytes old) image
-    ⊎ ((more : List Call) × (made ≡ Sync ∷ more) × IsFrontOf more plan × Leaves (held (history_of bytes old)) more image))
+abbrev pub AtAnyMomentBehindSync : List Made → List Call → List Made → Type 0
+AtAnyMomentBehindSync old plan new = (past : Past)
+    (made : List Call) (image : List ℕ) → LeftSince (history_of past new) (moment (history_of past old)) made image
+    → MayLeave (history_of past old) image
+    ⊎ ((more : List Call) × (made ≡ Sync ∷ more) × IsFrontOf more plan × Leaves (held (history_of past old)) more image)
 
--- where a disk tells: the bytes shown are those of all planned calls, and nothing is pending
-abbrev pub EndsSettled : Option (List ℕ) → List Made → List Call → List Made → Type 0
-EndsSettled first old plan new = IfSome first (λ bytes. IsSettled (history_of bytes new)
-    × (held (history_of bytes new) ≡ all_done (held (history_of bytes old)) plan))
+-- whatever it held: the bytes shown are those of all planned calls, and nothing is pending
+abbrev pub EndsSettled : List Made → List Call → List Made → Type 0
+EndsSettled old plan new = (past : Past) → IsSettled (history_of past new)
+    × (held (history_of past new) ≡ all_done (held (history_of past old)) plan)

@@ -1,4 +1,4 @@
-ghost use Rattle.std.specs.Prelude.{◌≡◌, ◌↔◌, ◌+◌, ◌≤◌, None, Some, Ok, [], length, IsErr, IfOk, IsOk, IfSome, OnOk, true, false};
+ghost use Rattle.std.specs.Prelude.{◌≡◌, ◌↔◌, ◌+◌, ◌≤◌, Some, Ok, length, IsErr, IfOk, IsOk, IfSome, OnOk, true, false};
 ghost use Rattle.std.specs.Io.KnownBytes.{Appends, Keeps};
 ghost use Rattle.rp_base.specs.Faults.{HasCause, Rose};
 ghost use Rattle.rp_base.specs.Image.{bytes_at};
@@ -11,7 +11,7 @@ use std::fs::{OpenFile, OpenOptions};
 use std::io::{self, ErrorKind, Read, Seek, SeekFrom, Write};
 use std::rt::Files;
 
-/// A file or block device as a disk. It doesn't tell its bytes, but what it was asked to do.
+/// A file or block device as a disk. It notes what it was asked and what it answered.
 #[derive(Drop)]
 pub struct FileDisk<F> {
     // none where it couldn't be opened
@@ -19,18 +19,16 @@ pub struct FileDisk<F> {
     // whether it was opened for writing too
     writable: bool,
     faults: u64,
-    // the changing calls that reached the file
+    // the calls that reached the file, and what it answered
     log: Log,
 }
 
 impl<F: Read + Write + Seek + OpenFile> FileDisk<F> {
-    ghost use Rattle.rp_disk.specs.FileDisk.{IsToRead};
+    ghost use Rattle.rp_disk.specs.FileDisk.{IsToRead, fresh};
 
     /// The disk on a path. It never refuses: where the path can't be opened for reading and writing, each call fails.
     pub fn open<R: Files<File = F>>(rt: &R, path: &str) -> FileDisk<F>
-        ensures first { ⟦<FileDisk<F> as Disk>⟧.first result ≡ None }
-        ensures calls { ⟦<FileDisk<F> as Disk>⟧.calls result ≡ [] }
-        ensures faults { ⟦<FileDisk<F> as Disk>⟧.faults result ≡ 0 }
+        ensures { ⟦<FileDisk<F> as Disk>⟧.device result ≡ fresh }
     {
         FileDisk {
             file: OpenOptions::new()
@@ -48,9 +46,7 @@ impl<F: Read + Write + Seek + OpenFile> FileDisk<F> {
     /// It never refuses: where the path can't be opened for reading, each call fails.
     pub fn open_to_read<R: Files<File = F>>(rt: &R, path: &str) -> FileDisk<F>
         ensures to_read { IsToRead result }
-        ensures first { ⟦<FileDisk<F> as Disk>⟧.first result ≡ None }
-        ensures calls { ⟦<FileDisk<F> as Disk>⟧.calls result ≡ [] }
-        ensures faults { ⟦<FileDisk<F> as Disk>⟧.faults result ≡ 0 }
+        ensures device { ⟦<FileDisk<F> as Disk>⟧.device result ≡ fresh }
     {
         FileDisk {
             file: OpenOptions::new().read(true).open(rt, path).ok(),
@@ -131,61 +127,61 @@ fn counted<T: Drop>(faults: &mut u64, answer: io::Result<T>) -> Result<T, Failed
     }
 }
 
-impl<F: Read + Write + Seek + OpenFile> Disk for FileDisk<F> {
-    ghost use Rattle.rp_disk.specs.FileDisk.{IsMissing, IsToRead, SameOpening};
+impl<F: Read + Write + Seek + OpenFile> FileDisk<F> {
+    ghost use Rattle.rp_disk.specs.Device.{NotesLength, NotesRead, NotesWrite};
+    ghost use Rattle.rp_disk.specs.FileDisk.{IsMissing, IsToRead, SameOpening, device_of};
     ghost use Rattle.rp_disk.specs.Made.{Makes};
 
-    ghost first = { λ _. None };
-
-    ghost calls = { λ disk. disk.log.calls };
-
-    ghost faults = { λ disk. disk.faults };
-
-    ghost strays = { λ _. 0 };
-
-    ghost lawful = { λ _. tt };
-
-    fn faults(&self) -> u64 {
-        self.faults
-    }
-
-    fn len(&mut self) -> Result<u64, Failed>
+    // The length, noted.
+    fn ask_len(&mut self) -> Result<u64, Failed>
         ensures missing { IsMissing self.old → IsErr result }
         ensures stays { SameOpening self.old self.new }
-        ensures calls { self.new.log.calls ≡ self.old.log.calls }
-        ensures cause { HasCause self.old.faults self.new.faults result }
+        ensures calls { (device_of self.new).calls ≡ (device_of self.old).calls }
+        ensures noted { NotesLength (device_of self.old) (device_of self.new) result }
+        ensures cause { HasCause (device_of self.old).faults (device_of self.new).faults result }
     {
         let Some(file) = &mut self.file else {
             return Err(fault(&mut self.faults));
         };
         let answer = measure(file);
+        if let Ok(len) = &answer {
+            self.log = self.log.then(&Note::Len(*len));
+        }
         counted(&mut self.faults, answer)
     }
 
-    fn read(&mut self, at: u64, buf: &mut [u8]) -> Result<(), Failed>
+    // The read, noted.
+    fn ask_read(&mut self, at: u64, buf: &mut [u8]) -> Result<(), Failed>
         ensures missing { IsMissing self.old → IsErr result }
         ensures stays { SameOpening self.old self.new }
-        ensures calls { self.new.log.calls ≡ self.old.log.calls }
-        ensures cause { HasCause self.old.faults self.new.faults result }
+        ensures calls { (device_of self.new).calls ≡ (device_of self.old).calls }
+        ensures noted { NotesRead (device_of self.old) (device_of self.new) at buf.new result }
+        ensures cause { HasCause (device_of self.old).faults (device_of self.new).faults result }
     {
         let Some(file) = &mut self.file else {
+            self.log = self.log.then(&Note::Missed(at, buf.len()));
             return Err(fault(&mut self.faults));
         };
         let answer = read_at(file, at, buf);
+        self.log = self.log.then(&Note::Read(at, buf, answer.is_ok()));
         counted(&mut self.faults, answer)
     }
 
-    fn write(&mut self, at: u64, bytes: &[u8]) -> Result<(), Failed>
+    // The write, noted.
+    fn ask_write(&mut self, at: u64, bytes: &[u8]) -> Result<(), Failed>
         ensures missing { IsMissing self.old → IsErr result }
-        ensures to_read { IsToRead self.old → IsErr result × (self.new.log.calls ≡ self.old.log.calls) }
+        ensures to_read { IsToRead self.old → IsErr result × ((device_of self.new).calls ≡ (device_of self.old).calls) }
         ensures stays { SameOpening self.old self.new }
-        ensures calls { Makes self.old.log.calls (Call.Write at bytes.now) self.new.log.calls result }
-        ensures cause { HasCause self.old.faults self.new.faults result }
+        ensures calls { Makes (device_of self.old).calls (Call.Write at bytes.now) (device_of self.new).calls result }
+        ensures noted { NotesWrite (device_of self.old) (device_of self.new) (at + length bytes.now) result }
+        ensures cause { HasCause (device_of self.old).faults (device_of self.new).faults result }
     {
         if !self.writable {
+            self.log = self.log.then(&Note::Missed(at, bytes.len()));
             return Err(fault(&mut self.faults));
         }
         let Some(file) = &mut self.file else {
+            self.log = self.log.then(&Note::Missed(at, bytes.len()));
             return Err(fault(&mut self.faults));
         };
         let answer = write_at(file, at, bytes);
@@ -193,12 +189,14 @@ impl<F: Read + Write + Seek + OpenFile> Disk for FileDisk<F> {
         counted(&mut self.faults, answer)
     }
 
-    fn sync(&mut self) -> Result<(), Failed>
+    // The sync, noted.
+    fn ask_sync(&mut self) -> Result<(), Failed>
         ensures missing { IsMissing self.old → IsErr result }
-        ensures to_read { IsToRead self.old → IsErr result × (self.new.log.calls ≡ self.old.log.calls) }
+        ensures to_read { IsToRead self.old → IsErr result × ((device_of self.new).calls ≡ (device_of self.old).calls) }
         ensures stays { SameOpening self.old self.new }
-        ensures calls { Makes self.old.log.calls Call.Sync self.new.log.calls result }
-        ensures cause { HasCause self.old.faults self.new.faults result }
+        ensures calls { Makes (device_of self.old).calls Call.Sync (device_of self.new).calls result }
+        ensures answers { (device_of self.new).answers ≡ (device_of self.old).answers }
+        ensures cause { HasCause (device_of self.old).faults (device_of self.new).faults result }
     {
         if !self.writable {
             return Err(fault(&mut self.faults));
@@ -211,12 +209,14 @@ impl<F: Read + Write + Seek + OpenFile> Disk for FileDisk<F> {
         counted(&mut self.faults, answer)
     }
 
-    fn set_len(&mut self, len: u64) -> Result<(), Failed>
+    // The change of length, noted.
+    fn ask_set_len(&mut self, len: u64) -> Result<(), Failed>
         ensures missing { IsMissing self.old → IsErr result }
-        ensures to_read { IsToRead self.old → IsErr result × (self.new.log.calls ≡ self.old.log.calls) }
+        ensures to_read { IsToRead self.old → IsErr result × ((device_of self.new).calls ≡ (device_of self.old).calls) }
         ensures stays { SameOpening self.old self.new }
-        ensures calls { Makes self.old.log.calls (Call.SetLen len) self.new.log.calls result }
-        ensures cause { HasCause self.old.faults self.new.faults result }
+        ensures calls { Makes (device_of self.old).calls (Call.SetLen len) (device_of self.new).calls result }
+        ensures answers { (device_of self.new).answers ≡ (device_of self.old).answers }
+        ensures cause { HasCause (device_of self.old).faults (device_of self.new).faults result }
     {
         if !self.writable {
             return Err(fault(&mut self.faults));
@@ -227,5 +227,88 @@ impl<F: Read + Write + Seek + OpenFile> Disk for FileDisk<F> {
         let answer = file.set_len(len);
         self.log = self.log.then(&Note::SetLen(len, answer.is_ok()));
         counted(&mut self.faults, answer)
+    }
+}
+
+impl<F: Read + Write + Seek + OpenFile> Disk for FileDisk<F> {
+    ghost use Rattle.rp_disk.specs.Device.{Earlier, Known, NotesLength, NotesRead, NotesWrite, missed};
+    ghost use Rattle.rp_disk.specs.FileDisk.{IsMissing, IsToRead, SameOpening, device_of};
+    ghost use Rattle.rp_disk.specs.History.{held};
+    ghost use Rattle.rp_disk.specs.Made.{Makes, Past, history_of};
+
+    ghost device = { device_of };
+
+    fn faults(&self) -> u64 {
+        self.faults
+    }
+
+    fn len(&mut self) -> Result<u64, Failed>
+        ensures missing { IsMissing self.old → IsErr result }
+        ensures stays { SameOpening self.old self.new }
+        ensures calls { (device_of self.new).calls ≡ (device_of self.old).calls }
+        ensures noted { NotesLength (device_of self.old) (device_of self.new) result }
+        ensures earlier { Earlier (device_of self.old) (device_of self.new) }
+        ensures len { Known (device_of self.old) (device_of self.new) (λ h. IfOk result (λ n. n ≡ length (held h))) }
+        ensures inside { (past : Past) → missed past (device_of self.new).answers ≡ missed past (device_of self.old).answers }
+        ensures cause { HasCause (device_of self.old).faults (device_of self.new).faults result }
+    {
+        self.ask_len()
+    }
+
+    fn read(&mut self, at: u64, buf: &mut [u8]) -> Result<(), Failed>
+        ensures missing { IsMissing self.old → IsErr result }
+        ensures stays { SameOpening self.old self.new }
+        ensures calls { (device_of self.new).calls ≡ (device_of self.old).calls }
+        ensures noted { NotesRead (device_of self.old) (device_of self.new) at buf.new result }
+        ensures earlier { Earlier (device_of self.old) (device_of self.new) }
+        ensures range { Known (device_of self.old) (device_of self.new)
+            (λ h. OnOk result (at + length buf.old ≤ length (held h))) }
+        ensures bytes { Known (device_of self.old) (device_of self.new)
+            (λ h. OnOk result (buf.new ≡ bytes_at (held h) at (length buf.old))) }
+        ensures inside { (past : Past) → at + length buf.old ≤ length (held (history_of past (device_of self.old).calls))
+            → missed past (device_of self.new).answers ≡ missed past (device_of self.old).answers }
+        ensures cause { HasCause (device_of self.old).faults (device_of self.new).faults result }
+    {
+        self.ask_read(at, buf)
+    }
+
+    fn write(&mut self, at: u64, bytes: &[u8]) -> Result<(), Failed>
+        ensures missing { IsMissing self.old → IsErr result }
+        ensures to_read { IsToRead self.old → IsErr result × ((device_of self.new).calls ≡ (device_of self.old).calls) }
+        ensures stays { SameOpening self.old self.new }
+        ensures calls { Makes (device_of self.old).calls (Call.Write at bytes.now) (device_of self.new).calls result }
+        ensures noted { NotesWrite (device_of self.old) (device_of self.new) (at + length bytes.now) result }
+        ensures earlier { Earlier (device_of self.old) (device_of self.new) }
+        ensures range { Known (device_of self.old) (device_of self.new)
+            (λ h. OnOk result (at + length bytes.now ≤ length (held h))) }
+        ensures inside { (past : Past) → at + length bytes.now ≤ length (held (history_of past (device_of self.old).calls))
+            → missed past (device_of self.new).answers ≡ missed past (device_of self.old).answers }
+        ensures cause { HasCause (device_of self.old).faults (device_of self.new).faults result }
+    {
+        self.ask_write(at, bytes)
+    }
+
+    fn sync(&mut self) -> Result<(), Failed>
+        ensures missing { IsMissing self.old → IsErr result }
+        ensures to_read { IsToRead self.old → IsErr result × ((device_of self.new).calls ≡ (device_of self.old).calls) }
+        ensures stays { SameOpening self.old self.new }
+        ensures calls { Makes (device_of self.old).calls Call.Sync (device_of self.new).calls result }
+        ensures answers { (device_of self.new).answers ≡ (device_of self.old).answers }
+        ensures earlier { Earlier (device_of self.old) (device_of self.new) }
+        ensures cause { HasCause (device_of self.old).faults (device_of self.new).faults result }
+    {
+        self.ask_sync()
+    }
+
+    fn set_len(&mut self, len: u64) -> Result<(), Failed>
+        ensures missing { IsMissing self.old → IsErr result }
+        ensures to_read { IsToRead self.old → IsErr result × ((device_of self.new).calls ≡ (device_of self.old).calls) }
+        ensures stays { SameOpening self.old self.new }
+        ensures calls { Makes (device_of self.old).calls (Call.SetLen len) (device_of self.new).calls result }
+        ensures answers { (device_of self.new).answers ≡ (device_of self.old).answers }
+        ensures earlier { Earlier (device_of self.old) (device_of self.new) }
+        ensures cause { HasCause (device_of self.old).faults (device_of self.new).faults result }
+    {
+        self.ask_set_len(len)
     }
 }

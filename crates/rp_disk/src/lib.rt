@@ -8,6 +8,7 @@ mod log;
 mod mem;
 mod record;
 mod stops;
+mod told;
 
 pub use call::Call;
 pub use disk::Disk;
@@ -16,3 +17,4 @@ pub use mem::MemDisk;
 pub use stops::{
     any_moment_law, moments_law, one_call_law, opening_law, settled_law, shown_law, stops_law,
 };
+pub use told::{earlier_law, failed_call_law, own_bytes_law, past_law};

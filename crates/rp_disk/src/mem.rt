@@ -1,9 +1,14 @@
-ghost use Rattle.std.specs.Prelude.{◌≡◌, ◌+◌, ◌-◌, ◌^◌, ◌≤◌, ◌<◌, ◌⊎◌, ◌++◌, ◌∷◌, [], ℕ, List, Some, min, map, length, vec_len, IsTrue, Contains, OnOk, OnErr, ◌↔◌, count_by};
+ghost use Rattle.std.specs.Prelude.{◌≡◌, ◌+◌, ◌-◌, ◌^◌, ◌≤◌, ◌<◌, ◌⊎◌, ◌++◌, ◌∷◌, [], ℕ, List, Some, min, map, length, vec_len, IsTrue, Contains, OnOk, ◌↔◌, count_by};
 ghost use Rattle.rp_disk.specs.Calls.{overwritten, is_write as is_write_call};
 ghost use Rattle.rp_disk.specs.History.{held};
 ghost use Rattle.rp_disk.specs.Kept.{writes_fit};
-ghost use Rattle.rp_disk.specs.Record.{first_bytes, recorded, history_kept};
+ghost use Rattle.rp_disk.specs.Device.{AllHold};
+ghost use Rattle.rp_disk.specs.MadeCode.{made_code};
+ghost use Rattle.rp_disk.specs.Record.{history_kept, past_kept, recorded};
+ghost use Rattle.rp_disk.specs.Told.{AllHold-prop};
+ghost use Rattle.std.specs.Coded.{Coded-set, coded_list};
 
+use crate::log::{Log, Note};
 use crate::record::Record;
 use crate::{Call, Disk};
 use rp_base::{Failed, List};
@@ -20,19 +25,23 @@ pub struct MemDisk {
     fail: List<u64>,
     // how many calls pass before all are to fail
     fuse: u64,
-    // how many calls came, how many of them failed, passed the end, found no memory
+    // what it was asked and what it answered
+    log: Log,
+    // how many calls came, how many of them failed, found no memory
     made: u64,
     faults: u64,
-    strays: u64,
     starved: u64,
     ghost shows: { held (history_kept bytes.items notes) ≡ bytes.items },
     ghost fits: { IsTrue (writes_fit (history_kept bytes.items notes)) },
+    ghost logged: { log.calls ≡ recorded notes } by { Coded-set (coded_list made_code) log.calls (recorded notes) },
+    ghost told: { AllHold (past_kept bytes.items notes) log.answers } by { AllHold-prop (past_kept bytes.items notes) log.answers },
 }
 
 impl MemDisk {
     ghost use Rattle.rp_disk.specs.History.{Start, held};
     ghost use Rattle.rp_disk.specs.Made.{asked};
-    ghost use Rattle.rp_disk.specs.MemDisk.{first, calls, history, starved, made, listed, fuse};
+    ghost use Rattle.rp_disk.specs.FileDisk.{fresh};
+    ghost use Rattle.rp_disk.specs.MemDisk.{first, calls, device_of, history, starved, made, listed, fuse};
 
     /// A disk that shows these bytes and fails the calls with these numbers, from 1. It takes no memory.
     pub fn new(alloc: Global, bytes: List<u8>, fail: List<u64>) -> Self
@@ -43,8 +52,7 @@ impl MemDisk {
         ensures fuse { fuse result ≡ 2 ^ 64 - 1 }
         ensures made { made result ≡ 0 }
         ensures starved { starved result ≡ 0 }
-        ensures faults { ⟦<MemDisk as Disk>⟧.faults result ≡ 0 }
-        ensures strays { ⟦<MemDisk as Disk>⟧.strays result ≡ 0 }
+        ensures device { device_of result ≡ fresh }
     {
         MemDisk::with(alloc, bytes, fail, u64::MAX)
     }
@@ -58,8 +66,7 @@ impl MemDisk {
         ensures fuse { fuse result ≡ passing }
         ensures made { made result ≡ 0 }
         ensures starved { starved result ≡ 0 }
-        ensures faults { ⟦<MemDisk as Disk>⟧.faults result ≡ 0 }
-        ensures strays { ⟦<MemDisk as Disk>⟧.strays result ≡ 0 }
+        ensures device { device_of result ≡ fresh }
     {
         MemDisk::with(alloc, bytes, List::new(alloc), passing)
     }
@@ -72,8 +79,7 @@ impl MemDisk {
         ensures fuse { fuse result ≡ passing }
         ensures made { made result ≡ 0 }
         ensures starved { starved result ≡ 0 }
-        ensures faults { ⟦<MemDisk as Disk>⟧.faults result ≡ 0 }
-        ensures strays { ⟦<MemDisk as Disk>⟧.strays result ≡ 0 }
+        ensures device { device_of result ≡ fresh }
     {
         MemDisk {
             alloc,
@@ -81,9 +87,9 @@ impl MemDisk {
             notes: Record::new(alloc),
             fail,
             fuse: passing,
+            log: Log::new(),
             made: 0,
             faults: 0,
-            strays: 0,
             starved: 0,
         }
     }
@@ -138,86 +144,70 @@ fn put(image: &mut Vec<u8>, at: usize, bytes: &[u8])
     image[at..at + bytes.len()].copy_from_slice(bytes);
 }
 
-impl Disk for MemDisk {
-    ghost use Rattle.std.specs.Prelude.{IfOk, nat_lt, ⊤};
-    ghost use Rattle.rp_base.specs.Faults.{CountsStray, HasCause};
+impl MemDisk {
+    ghost use Rattle.std.specs.Prelude.{IfOk, ⊤};
+    ghost use Rattle.rp_base.specs.Faults.{HasCause};
     ghost use Rattle.rp_base.specs.Image.{bytes_at};
+    ghost use Rattle.rp_disk.specs.Device.{NotesLength, NotesRead, NotesWrite};
     ghost use Rattle.rp_disk.specs.History.{held};
     ghost use Rattle.rp_disk.specs.Made.{Makes};
-    ghost use Rattle.rp_disk.specs.MemDisk.{first, calls, history, faults_of, strays_of, Reads, Changes};
+    ghost use Rattle.rp_disk.specs.MemDisk.{first, calls, history, device_of, Reads, Changes};
 
-    ghost first = { λ m. Some (first_bytes m.bytes.items m.notes) };
-
-    ghost calls = { λ m. recorded m.notes };
-
-    ghost faults = { λ m. m.faults };
-
-    ghost strays = { λ m. m.strays };
-
-    ghost use Rattle.rp_disk.specs.KeptLawful.{kept_lawful};
-
-    ghost lawful = { λ m. kept_lawful m.bytes.items m.notes.first.items m.notes.calls.items m.notes.oks.items m.fits };
-
-    fn faults(&self) -> u64 {
-        self.faults
-    }
-
-    fn len(&mut self) -> Result<u64, Failed>
+    // The length, noted.
+    fn ask_len(&mut self) -> Result<u64, Failed>
         ensures first { first self.new ≡ first self.old }
-        ensures calls { calls self.new ≡ calls self.old }
-        ensures len { IfOk result (λ n. n ≡ length (held (history self.old))) }
-        ensures strays { strays_of self.new ≡ strays_of self.old }
-        ensures cause { HasCause (faults_of self.old) (faults_of self.new) result }
+        ensures calls { (device_of self.new).calls ≡ (device_of self.old).calls }
+        ensures value { IfOk result (λ n. n ≡ length (held (history self.old))) }
         ensures exact { Reads self.old self.new ⊤ result }
+        ensures noted { NotesLength (device_of self.old) (device_of self.new) result }
+        ensures cause { HasCause (device_of self.old).faults (device_of self.new).faults result }
     {
         if is_to_fail(&mut self.made, &self.fail, self.fuse) {
             return Err(fault(&mut self.faults));
         }
-        Ok(self.bytes.len() as u64)
+        let len = self.bytes.len() as u64;
+        self.log = self.log.then(&Note::Len(len));
+        Ok(len)
     }
 
-    fn read(&mut self, at: u64, buf: &mut [u8]) -> Result<(), Failed>
+    // The read, noted.
+    fn ask_read(&mut self, at: u64, buf: &mut [u8]) -> Result<(), Failed>
         ensures first { first self.new ≡ first self.old }
-        ensures calls { calls self.new ≡ calls self.old }
-        ensures range { OnOk result (at + length buf.old ≤ length (held (history self.old))) }
-        ensures bytes { OnOk result (buf.new ≡ bytes_at (held (history self.old)) at (length buf.old)) }
-        ensures strays { CountsStray (nat_lt (length (held (history self.old))) (at + length buf.old)) (strays_of self.old)
-            (strays_of self.new) }
-        ensures cause { HasCause (faults_of self.old) (faults_of self.new) result }
+        ensures calls { (device_of self.new).calls ≡ (device_of self.old).calls }
+        ensures given { OnOk result (buf.new ≡ bytes_at (held (history self.old)) at (length buf.old)) }
         ensures exact { Reads self.old self.new (at + length buf.old ≤ length (held (history self.old))) result }
+        ensures noted { NotesRead (device_of self.old) (device_of self.new) at buf.new result }
+        ensures cause { HasCause (device_of self.old).faults (device_of self.new).faults result }
     {
         let failing = is_to_fail(&mut self.made, &self.fail, self.fuse);
-        let inside = is_inside(at, buf.len(), self.bytes.len());
-        if !inside {
-            self.strays = self.strays.saturating_add(1);
-        }
-        if failing || !inside {
+        if failing || !is_inside(at, buf.len(), self.bytes.len()) {
+            self.log = self.log.then(&Note::Missed(at, buf.len()));
             return Err(fault(&mut self.faults));
         }
-        let at = at as usize;
-        buf.copy_from_slice(&self.bytes[at..at + buf.len()]);
+        let from = at as usize;
+        buf.copy_from_slice(&self.bytes[from..from + buf.len()]);
+        self.log = self.log.then(&Note::Read(at, buf, true));
         Ok(())
     }
 
-    fn write(&mut self, at: u64, bytes: &[u8]) -> Result<(), Failed>
+    // The write, noted.
+    fn ask_write(&mut self, at: u64, bytes: &[u8]) -> Result<(), Failed>
         ensures first { first self.new ≡ first self.old }
-        ensures calls { Makes (calls self.old) (Call.Write at bytes.now) (calls self.new) result }
-        ensures range { OnOk result (at + length bytes.now ≤ length (held (history self.old))) }
-        ensures strays { CountsStray (nat_lt (length (held (history self.old))) (at + length bytes.now)) (strays_of self.old)
-            (strays_of self.new) }
-        ensures cause { HasCause (faults_of self.old) (faults_of self.new) result }
         ensures exact { Changes self.old self.new (Call.Write at bytes.now)
             (at + length bytes.now ≤ length (held (history self.old))) result }
+        ensures calls { Makes (device_of self.old).calls (Call.Write at bytes.now) (device_of self.new).calls result }
+        ensures noted { NotesWrite (device_of self.old) (device_of self.new) (at + length bytes.now) result }
+        ensures cause { HasCause (device_of self.old).faults (device_of self.new).faults result }
     {
         let failing = is_to_fail(&mut self.made, &self.fail, self.fuse);
         let inside = is_inside(at, bytes.len(), self.bytes.len());
-        if !inside {
-            self.strays = self.strays.saturating_add(1);
-        }
         let ok = inside && !failing;
         let copy = match bytes.to_vec(self.alloc) {
             Ok(copy) => copy,
-            Err(_) => return Err(starve(&mut self.faults, &mut self.starved)),
+            Err(_) => {
+                self.log = self.log.then(&Note::Missed(at, bytes.len()));
+                return Err(starve(&mut self.faults, &mut self.starved));
+            }
         };
         let call = Call::Write {
             at,
@@ -228,8 +218,10 @@ impl Disk for MemDisk {
             .note(self.alloc, self.bytes.as_slice(), call, ok)
             .is_err()
         {
+            self.log = self.log.then(&Note::Missed(at, bytes.len()));
             return Err(starve(&mut self.faults, &mut self.starved));
         }
+        self.log = self.log.then(&Note::Write(at, bytes, ok));
         if !ok {
             return Err(fault(&mut self.faults));
         }
@@ -237,12 +229,13 @@ impl Disk for MemDisk {
         Ok(())
     }
 
-    fn sync(&mut self) -> Result<(), Failed>
+    // The sync, noted.
+    fn ask_sync(&mut self) -> Result<(), Failed>
         ensures first { first self.new ≡ first self.old }
-        ensures calls { Makes (calls self.old) Call.Sync (calls self.new) result }
-        ensures strays { strays_of self.new ≡ strays_of self.old }
-        ensures cause { HasCause (faults_of self.old) (faults_of self.new) result }
         ensures exact { Changes self.old self.new Call.Sync ⊤ result }
+        ensures calls { Makes (device_of self.old).calls Call.Sync (device_of self.new).calls result }
+        ensures answers { (device_of self.new).answers ≡ (device_of self.old).answers }
+        ensures cause { HasCause (device_of self.old).faults (device_of self.new).faults result }
     {
         let ok = !is_to_fail(&mut self.made, &self.fail, self.fuse);
         if self
@@ -252,18 +245,20 @@ impl Disk for MemDisk {
         {
             return Err(starve(&mut self.faults, &mut self.starved));
         }
+        self.log = self.log.then(&Note::Sync(ok));
         if !ok {
             return Err(fault(&mut self.faults));
         }
         Ok(())
     }
 
-    fn set_len(&mut self, len: u64) -> Result<(), Failed>
+    // The change of length, noted.
+    fn ask_set_len(&mut self, len: u64) -> Result<(), Failed>
         ensures first { first self.new ≡ first self.old }
-        ensures calls { Makes (calls self.old) (Call.SetLen len) (calls self.new) result }
-        ensures strays { strays_of self.new ≡ strays_of self.old }
-        ensures cause { HasCause (faults_of self.old) (faults_of self.new) result }
         ensures exact { Changes self.old self.new (Call.SetLen len) ⊤ result }
+        ensures calls { Makes (device_of self.old).calls (Call.SetLen len) (device_of self.new).calls result }
+        ensures answers { (device_of self.new).answers ≡ (device_of self.old).answers }
+        ensures cause { HasCause (device_of self.old).faults (device_of self.new).faults result }
     {
         let ok = !is_to_fail(&mut self.made, &self.fail, self.fuse);
         let size = self.bytes.len();
@@ -278,11 +273,98 @@ impl Disk for MemDisk {
         {
             return Err(starve(&mut self.faults, &mut self.starved));
         }
+        self.log = self.log.then(&Note::SetLen(len, ok));
         if !ok {
             return Err(fault(&mut self.faults));
         }
         self.bytes.resize(new_size, 0).unwrap();
         Ok(())
+    }
+}
+
+impl Disk for MemDisk {
+    ghost use Rattle.std.specs.Prelude.{IfOk, ⊤};
+    ghost use Rattle.rp_base.specs.Faults.{HasCause};
+    ghost use Rattle.rp_base.specs.Image.{bytes_at};
+    ghost use Rattle.rp_disk.specs.Device.{Earlier, Known, NotesLength, NotesRead, NotesWrite, missed};
+    ghost use Rattle.rp_disk.specs.History.{held};
+    ghost use Rattle.rp_disk.specs.Made.{Makes, Past, history_of};
+    ghost use Rattle.rp_disk.specs.MemDisk.{first, calls, history, device_of, Reads, Changes};
+
+    ghost device = { device_of };
+
+    fn faults(&self) -> u64 {
+        self.faults
+    }
+
+    fn len(&mut self) -> Result<u64, Failed>
+        ensures first { first self.new ≡ first self.old }
+        ensures calls { (device_of self.new).calls ≡ (device_of self.old).calls }
+        ensures value { IfOk result (λ n. n ≡ length (held (history self.old))) }
+        ensures exact { Reads self.old self.new ⊤ result }
+        ensures noted { NotesLength (device_of self.old) (device_of self.new) result }
+        ensures earlier { Earlier (device_of self.old) (device_of self.new) }
+        ensures len { Known (device_of self.old) (device_of self.new) (λ h. IfOk result (λ n. n ≡ length (held h))) }
+        ensures inside { (past : Past) → missed past (device_of self.new).answers ≡ missed past (device_of self.old).answers }
+        ensures cause { HasCause (device_of self.old).faults (device_of self.new).faults result }
+    {
+        self.ask_len()
+    }
+
+    fn read(&mut self, at: u64, buf: &mut [u8]) -> Result<(), Failed>
+        ensures first { first self.new ≡ first self.old }
+        ensures calls { (device_of self.new).calls ≡ (device_of self.old).calls }
+        ensures given { OnOk result (buf.new ≡ bytes_at (held (history self.old)) at (length buf.old)) }
+        ensures exact { Reads self.old self.new (at + length buf.old ≤ length (held (history self.old))) result }
+        ensures noted { NotesRead (device_of self.old) (device_of self.new) at buf.new result }
+        ensures earlier { Earlier (device_of self.old) (device_of self.new) }
+        ensures range { Known (device_of self.old) (device_of self.new)
+            (λ h. OnOk result (at + length buf.old ≤ length (held h))) }
+        ensures bytes { Known (device_of self.old) (device_of self.new)
+            (λ h. OnOk result (buf.new ≡ bytes_at (held h) at (length buf.old))) }
+        ensures inside { (past : Past) → at + length buf.old ≤ length (held (history_of past (device_of self.old).calls))
+            → missed past (device_of self.new).answers ≡ missed past (device_of self.old).answers }
+        ensures cause { HasCause (device_of self.old).faults (device_of self.new).faults result }
+    {
+        self.ask_read(at, buf)
+    }
+
+    fn write(&mut self, at: u64, bytes: &[u8]) -> Result<(), Failed>
+        ensures first { first self.new ≡ first self.old }
+        ensures exact { Changes self.old self.new (Call.Write at bytes.now)
+            (at + length bytes.now ≤ length (held (history self.old))) result }
+        ensures calls { Makes (device_of self.old).calls (Call.Write at bytes.now) (device_of self.new).calls result }
+        ensures noted { NotesWrite (device_of self.old) (device_of self.new) (at + length bytes.now) result }
+        ensures earlier { Earlier (device_of self.old) (device_of self.new) }
+        ensures range { Known (device_of self.old) (device_of self.new)
+            (λ h. OnOk result (at + length bytes.now ≤ length (held h))) }
+        ensures inside { (past : Past) → at + length bytes.now ≤ length (held (history_of past (device_of self.old).calls))
+            → missed past (device_of self.new).answers ≡ missed past (device_of self.old).answers }
+        ensures cause { HasCause (device_of self.old).faults (device_of self.new).faults result }
+    {
+        self.ask_write(at, bytes)
+    }
+
+    fn sync(&mut self) -> Result<(), Failed>
+        ensures first { first self.new ≡ first self.old }
+        ensures exact { Changes self.old self.new Call.Sync ⊤ result }
+        ensures calls { Makes (device_of self.old).calls Call.Sync (device_of self.new).calls result }
+        ensures answers { (device_of self.new).answers ≡ (device_of self.old).answers }
+        ensures earlier { Earlier (device_of self.old) (device_of self.new) }
+        ensures cause { HasCause (device_of self.old).faults (device_of self.new).faults result }
+    {
+        self.ask_sync()
+    }
+
+    fn set_len(&mut self, len: u64) -> Result<(), Failed>
+        ensures first { first self.new ≡ first self.old }
+        ensures exact { Changes self.old self.new (Call.SetLen len) ⊤ result }
+        ensures calls { Makes (device_of self.old).calls (Call.SetLen len) (device_of self.new).calls result }
+        ensures answers { (device_of self.new).answers ≡ (device_of self.old).answers }
+        ensures earlier { Earlier (device_of self.old) (device_of self.new) }
+        ensures cause { HasCause (device_of self.old).faults (device_of self.new).faults result }
+    {
+        self.ask_set_len(len)
     }
 }
 

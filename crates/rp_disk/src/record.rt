@@ -15,7 +15,7 @@ pub(crate) struct Record {
 }
 
 impl Record {
-    ghost use Rattle.rp_disk.specs.History.{Start, held};
+    ghost use Rattle.rp_disk.specs.History.{Start};
     ghost use Rattle.rp_disk.specs.Made.{asked};
     ghost use Rattle.rp_disk.specs.Kept.{answered, noted};
     ghost use Rattle.rp_disk.specs.Record.{first_bytes, recorded, history_kept};
@@ -47,11 +47,11 @@ impl Record {
         ok: bool,
     ) -> Result<(), AllocError>
         ensures first { OnOk result ((after : List ℕ) → first_bytes after self.new ≡ first_bytes image.now self.old) }
-        ensures calls { OnOk result (recorded self.new ≡ recorded self.old
-            ++ answered (held (history_kept image.now self.old)) call ok ∷ []) }
+        ensures calls { OnOk result (recorded self.new ≡ recorded self.old ++ answered call ok ∷ []) }
         ensures history { OnOk result ((after : List ℕ) → history_kept after self.new ≡ noted (history_kept image.now self.old) call ok) }
         ensures same_first { OnErr result (first_bytes image.now self.new ≡ first_bytes image.now self.old) }
         ensures same_calls { OnErr result (recorded self.new ≡ recorded self.old) }
+        ensures same_history { OnErr result (history_kept image.now self.new ≡ history_kept image.now self.old) }
     {
         if self.calls.is_empty() {
             self.first = image.to_vec(alloc)?;

@@ -1,4 +1,4 @@
-ghost use Rattle.std.specs.Prelude.{List, Option, ◌++◌, ℕ, ◌≡◌, [], ◌∷◌, ◌⊎◌, ◌↔◌, ◌+◌, ◌≤◌, length, take, drop};
+ghost use Rattle.std.specs.Prelude.{List, ◌++◌, ℕ, ◌≡◌, [], ◌∷◌, ◌⊎◌, ◌↔◌, ◌+◌, ◌≤◌, length, take, drop};
 ghost use Rattle.rp_disk.specs.Stops.{Agrees, IsFrontOf, Leaves};
 ghost use Rattle.rp_disk.specs.History.{History, Failed, IsLawful, IsSettled, LeftSince, MayLeave, did, made_since, moment, held};
 ghost use Rattle.rp_disk.specs.Made.{Made, dones};
@@ -61,10 +61,9 @@ pub fn shown_law()
 /// it may leave of those made by then. Nothing is pending at the start; or the calls begin with a sync, and then
 /// something may be. Where they end with a sync and were all done whole, nothing is pending at the end.
 pub fn any_moment_law()
-    ensures settled { (first : Option (List ℕ)) (old new : List Made) (plan : List Call) → MadeFirst old plan new
-        → AtAnyMoment first old plan new }
-    ensures behind_sync { (first : Option (List ℕ)) (old new : List Made) (plan : List Call) → MadeFirst old (Call.Sync ∷ plan) new
-        → AtAnyMomentBehindSync first old plan new }
-    ensures end { (first : Option (List ℕ)) (old new : List Made) (calls : List Call) → new ≡ old ++ dones (calls ++ Call.Sync ∷ [])
-        → EndsSettled first old (calls ++ Call.Sync ∷ []) new }
+    ensures settled { (old new : List Made) (plan : List Call) → MadeFirst old plan new → AtAnyMoment old plan new }
+    ensures behind_sync { (old new : List Made) (plan : List Call) → MadeFirst old (Call.Sync ∷ plan) new
+        → AtAnyMomentBehindSync old plan new }
+    ensures end { (old new : List Made) (calls : List Call) → new ≡ old ++ dones (calls ++ Call.Sync ∷ [])
+        → EndsSettled old (calls ++ Call.Sync ∷ []) new }
 {}

@@ -1,5 +1,6 @@
 ghost use Rattle.std.specs.Prelude.{◌≡◌, ◌+◌, ◌*◌, ◌<◌, ◌^◌, ◌∷◌, length, OnOk};
 ghost use Rattle.rp_base.specs.Faults.{HasCause};
+ghost use Rattle.rp_disk.specs.Device.{Earlier};
 ghost use Rattle.rp_disk.specs.Runs.{AtAnyMoment, AtAnyMomentBehindSync, EndsSettled, Runs};
 ghost use Rattle.rp_disk_example.specs.Copies.{two_writes, row_of, settled_row};
 
@@ -7,10 +8,11 @@ use rp_base::Failed;
 use rp_disk::{Call, Disk};
 
 // The calls of `two_copies`.
+#[tactic(auto, using(rp_disk::proofs::Noting::earlier_then))]
 fn make_two<D: Disk>(disk: &mut D, first: u64, second: u64, bytes: &[u8]) -> Result<(), Failed>
-    ensures first { D.first disk.new ≡ D.first disk.old }
-    ensures ran { Runs (D.calls disk.old) (two_writes first second bytes.now) (D.calls disk.new) result }
-    ensures cause { HasCause (D.faults disk.old) (D.faults disk.new) result }
+    ensures earlier { Earlier (D.device disk.old) (D.device disk.new) }
+    ensures ran { Runs (D.device disk.old).calls (two_writes first second bytes.now) (D.device disk.new).calls result }
+    ensures cause { HasCause (D.device disk.old).faults (D.device disk.new).faults result }
 {
     disk.write(first, bytes)?;
     disk.sync()?;
@@ -26,21 +28,22 @@ pub fn two_copies<D: Disk>(
     second: u64,
     bytes: &[u8],
 ) -> Result<(), Failed>
-    ensures first { D.first disk.new ≡ D.first disk.old }
-    ensures ran { Runs (D.calls disk.old) (two_writes first second bytes.now) (D.calls disk.new) result }
-    ensures end { OnOk result (EndsSettled (D.first disk.old) (D.calls disk.old) (two_writes first second bytes.now) (D.calls disk.new)) }
-    ensures any_moment { AtAnyMoment (D.first disk.old) (D.calls disk.old) (two_writes first second bytes.now) (D.calls disk.new) }
-    ensures cause { HasCause (D.faults disk.old) (D.faults disk.new) result }
+    ensures earlier { Earlier (D.device disk.old) (D.device disk.new) }
+    ensures ran { Runs (D.device disk.old).calls (two_writes first second bytes.now) (D.device disk.new).calls result }
+    ensures end { OnOk result (EndsSettled (D.device disk.old).calls (two_writes first second bytes.now) (D.device disk.new).calls) }
+    ensures any_moment { AtAnyMoment (D.device disk.old).calls (two_writes first second bytes.now) (D.device disk.new).calls }
+    ensures cause { HasCause (D.device disk.old).faults (D.device disk.new).faults result }
 {
     make_two(disk, first, second, bytes)
 }
 
 // Writes the bytes this often, one behind the other.
+#[tactic(auto, using(rp_disk::proofs::Noting::earlier_then))]
 fn write_row<D: Disk>(disk: &mut D, at: u64, count: u64, bytes: &[u8]) -> Result<(), Failed>
     requires { at + count * length bytes.now < 2 ^ 64 }
-    ensures first { D.first disk.new ≡ D.first disk.old }
-    ensures ran { Runs (D.calls disk.old) (row_of at count bytes.now) (D.calls disk.new) result }
-    ensures cause { HasCause (D.faults disk.old) (D.faults disk.new) result }
+    ensures earlier { Earlier (D.device disk.old) (D.device disk.new) }
+    ensures ran { Runs (D.device disk.old).calls (row_of at count bytes.now) (D.device disk.new).calls result }
+    ensures cause { HasCause (D.device disk.old).faults (D.device disk.new).faults result }
 {
     let size = bytes.len() as u64;
     for i in 0..count {
@@ -50,11 +53,12 @@ fn write_row<D: Disk>(disk: &mut D, at: u64, count: u64, bytes: &[u8]) -> Result
 }
 
 // The calls of `fill`.
+#[tactic(auto, using(rp_disk::proofs::Noting::earlier_then))]
 fn make_row<D: Disk>(disk: &mut D, at: u64, count: u64, bytes: &[u8]) -> Result<(), Failed>
     requires { at + count * length bytes.now < 2 ^ 64 }
-    ensures first { D.first disk.new ≡ D.first disk.old }
-    ensures ran { Runs (D.calls disk.old) (Call.Sync ∷ settled_row at count bytes.now) (D.calls disk.new) result }
-    ensures cause { HasCause (D.faults disk.old) (D.faults disk.new) result }
+    ensures earlier { Earlier (D.device disk.old) (D.device disk.new) }
+    ensures ran { Runs (D.device disk.old).calls (Call.Sync ∷ settled_row at count bytes.now) (D.device disk.new).calls result }
+    ensures cause { HasCause (D.device disk.old).faults (D.device disk.new).faults result }
 {
     disk.sync()?;
     write_row(disk, at, count, bytes)?;
@@ -65,12 +69,12 @@ fn make_row<D: Disk>(disk: &mut D, at: u64, count: u64, bytes: &[u8]) -> Result<
 /// Writes the bytes this often, one behind the other, between two syncs.
 pub fn fill<D: Disk>(disk: &mut D, at: u64, count: u64, bytes: &[u8]) -> Result<(), Failed>
     requires { at + count * length bytes.now < 2 ^ 64 }
-    ensures first { D.first disk.new ≡ D.first disk.old }
-    ensures ran { Runs (D.calls disk.old) (Call.Sync ∷ settled_row at count bytes.now) (D.calls disk.new) result }
-    ensures end { OnOk result (EndsSettled (D.first disk.old) (D.calls disk.old) (Call.Sync ∷ settled_row at count bytes.now)
-        (D.calls disk.new)) }
-    ensures any_moment { AtAnyMomentBehindSync (D.first disk.old) (D.calls disk.old) (settled_row at count bytes.now) (D.calls disk.new) }
-    ensures cause { HasCause (D.faults disk.old) (D.faults disk.new) result }
+    ensures earlier { Earlier (D.device disk.old) (D.device disk.new) }
+    ensures ran { Runs (D.device disk.old).calls (Call.Sync ∷ settled_row at count bytes.now) (D.device disk.new).calls result }
+    ensures end { OnOk result (EndsSettled (D.device disk.old).calls (Call.Sync ∷ settled_row at count bytes.now)
+        (D.device disk.new).calls) }
+    ensures any_moment { AtAnyMomentBehindSync (D.device disk.old).calls (settled_row at count bytes.now) (D.device disk.new).calls }
+    ensures cause { HasCause (D.device disk.old).faults (D.device disk.new).faults result }
 {
     make_row(disk, at, count, bytes)
 }

@@ -1,3 +1,4 @@
+mod Finding
 mod Kinding
 mod Reaching
 mod Reading

@@ -51,6 +51,11 @@ pub well_of : (rows : List Row) (o : Option Row) → IfSome o (IsAmong rows) →
 well_of rows None among = tt
 well_of rows (Some row) among = among.0
 
+-- a row with its tree reaches behind the row
+pub ends_behind : (row : Row) (tree : Option Row) → end_of row ≤ ends_with row tree
+ends_behind row None = omega arith
+ends_behind row (Some hash) = omega arith
+
 -- a row with its tree reaches no farther
 pub ends_among : (rows : List Row) (row : Row) (tree : Option Row) → IsAmong rows row → IfSome tree (IsAmong rows)
     → ends_with row tree ≤ farthest rows

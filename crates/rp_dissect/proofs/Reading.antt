@@ -1,19 +1,19 @@
 -- What was read of an image, and what is said of it.
-use Rattle.std.proofs.Common.{◌≡◌, ◌⊎◌, ℕ, ◌≤◌, ◌<◌, ◌+◌, ◌*◌, ◌/◌, List, length, get_or, Option, Some, None, Result, Ok, Err, ◌∙◌, ap, inl, inr, arith}
-use Rattle.std.specs.Prelude.{IfSome}
+use Rattle.std.proofs.Common.{◌≡◌, ◌⊎◌, ℕ, ◌≤◌, ◌<◌, ◌+◌, ◌*◌, ◌/◌, List, length, get_or, Result, Ok, Err, sym, ◌∙◌, ap, subst, inl, inr, arith}
 use Rattle.rp_base.specs.Answers.{Gives}
 use Rattle.rp_base.specs.Geometry.{IsSector, sector_units, usable_end}
 use Rattle.rp_base.specs.declared.seen.Seen.{Seen}
 use Rattle.rp_base.specs.declared.table.Row.{Row}
 use Rattle.rp_disk.specs.History.{held}
-use Rattle.rp_disk.specs.Made.{Made, history_told}
+use Rattle.rp_disk.specs.Device.{Device, Earlier, Known, StaysInside, StaysInsideWhere}
+use Rattle.rp_disk.specs.Made.{Made, history_of}
+use Rattle.rp_disk.proofs.Noting.{can_before}
 use Rattle.rp_gpt.specs.Accepted.{IsSeen}
 use Rattle.rp_gpt.specs.Shown.{accepted}
 use Rattle.rp_gpt.specs.declared.table_fault.Empty.TheVariants.{Refuse}
 use Rattle.rp_gpt.specs.declared.table_fault.TableFault.{TableFault}
 use Rattle.rp_gpt.specs.declared.table_fault.TableFault.TheVariants as table
 use Rattle.rp_policy.specs.declared.policy.Policy.{Policy}
-use Rattle.rp_tree.proofs.ReadsLemmas.{told_before}
 use Rattle.rp_types.specs.declared.arch.Arch.{Arch}
 use Rattle.rp_verdict.specs.Verdicts.{listed, whole}
 use Rattle.rp_verdict.specs.declared.verdict.DissectFault.{DissectFault}
@@ -83,9 +83,8 @@ rows_in sector seen rows len is same whole =
     let within = rows_within sector seen is in let equal : farthest rows ≡ farthest seen.shown.rows = ap farthest same in omega (arith, within)
 
 -- no call passed the end, of those that read the table, and of those behind
-pub no_strays : (first again : Option (List ℕ)) (calls made : List Made) (strays some more end : ℕ) → again ≡ first → made ≡ calls
-    → IfSome first (λ _. some ≡ strays) → IfSome (history_told first calls) (λ h. end ≤ length (held h))
-    → IfSome (history_told again made) (λ h. end ≤ length (held h) → more ≡ some) → IfSome first (λ _. more ≡ strays)
-no_strays None again calls made strays some more end f m one within two = tt
-no_strays (Some bytes) again calls made strays some more end f m one within two =
-    told_before (λ h. end ≤ length (held h) → more ≡ some) (Some bytes) again calls made f m two within ∙ one
+pub stays_inside : (before mid now : Device) (end : ℕ) → mid.calls ≡ before.calls → Earlier mid now → StaysInside before mid
+    → Known before mid (λ h. end ≤ length (held h)) → StaysInsideWhere mid now (λ h. end ≤ length (held h)) → StaysInside before now
+stays_inside before mid now end same earlier one within two = λ past can.
+    let can_mid = can_before earlier can in
+    two past (subst (λ (calls : List Made). end ≤ length (held (history_of past calls))) (sym same) (within past can_mid)) ∙ one past can_mid

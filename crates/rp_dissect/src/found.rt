@@ -2,8 +2,8 @@
 
 ghost use Rattle.std.specs.Prelude.{◌≡◌, ◌≤◌, ◌*◌, All, IfSome, IfOk, OnOk, length, map};
 ghost use Rattle.rp_base.specs.Image.{bytes_at};
+ghost use Rattle.rp_disk.specs.Device.{Known};
 ghost use Rattle.rp_disk.specs.History.{held};
-ghost use Rattle.rp_disk.specs.Made.{history_told};
 ghost use Rattle.rp_policy.specs.Reading.{designators};
 ghost use Rattle.rp_tree.specs.Reads.{Reads, end_of};
 ghost use Rattle.rp_dissect.specs.Kinds.{found_as, found_of, has_tree, is_luks, kinds_of};
@@ -38,9 +38,8 @@ pub fn found_in<D: Disk>(
 ) -> Result<[Option<Found>; 13], Failed>
     requires rows { All EndsWell rows.now }
     requires room { 24576 ≤ length room.old }
-    ensures reads { Reads (farthest rows.now) (D.first disk.old) (D.first disk.new) (D.calls disk.old) (D.calls disk.new)
-        (D.strays disk.old) (D.strays disk.new) (D.faults disk.old) (D.faults disk.new) result }
-    ensures found { IfSome (history_told (D.first disk.old) (D.calls disk.old)) (λ h.
+    ensures reads { Reads (farthest rows.now) (D.device disk.old) (D.device disk.new) result }
+    ensures found { Known (D.device disk.old) (D.device disk.new) (λ h.
         IfOk result (λ found. found ≡ map (found_of (held h) arch rows.now) designators)) }
 {
     let mut found = [None; 13];
@@ -60,9 +59,8 @@ fn found_of<D: Disk>(
 ) -> Result<Option<Found>, Failed>
     requires rows { All EndsWell rows.now }
     requires room { 24576 ≤ length room.old }
-    ensures reads { Reads (farthest rows.now) (D.first disk.old) (D.first disk.new) (D.calls disk.old) (D.calls disk.new)
-        (D.strays disk.old) (D.strays disk.new) (D.faults disk.old) (D.faults disk.new) result }
-    ensures found { IfSome (history_told (D.first disk.old) (D.calls disk.old))
+    ensures reads { Reads (farthest rows.now) (D.device disk.old) (D.device disk.new) result }
+    ensures found { Known (D.device disk.old) (D.device disk.new)
         (λ h. IfOk result (λ found. found ≡ found_of (held h) arch rows.now designator)) }
 {
     let Some(row) = row_of(rows, arch, designator) else {
@@ -94,9 +92,8 @@ fn kinds_of<D: Disk>(
     requires row { EndsWell row.now }
     requires tree { IfSome tree EndsWell }
     requires room { 24576 ≤ length room.old }
-    ensures reads { Reads (ends_with row.now tree) (D.first disk.old) (D.first disk.new) (D.calls disk.old) (D.calls disk.new)
-        (D.strays disk.old) (D.strays disk.new) (D.faults disk.old) (D.faults disk.new) result }
-    ensures kinds { IfSome (history_told (D.first disk.old) (D.calls disk.old))
+    ensures reads { Reads (ends_with row.now tree) (D.device disk.old) (D.device disk.new) result }
+    ensures kinds { Known (D.device disk.old) (D.device disk.new)
         (λ h. IfOk result (λ kinds. kinds.0 ≡ kinds_of (held h) row.now tree)) }
 {
     if row.size < BLOCK_UNITS {
@@ -117,9 +114,8 @@ fn kinds_of<D: Disk>(
 fn is_luks<D: Disk>(disk: &mut D, row: &Row) -> Result<bool, Failed>
     requires row { EndsWell row.now }
     requires size { 8 ≤ row.now.size }
-    ensures reads { Reads (end_of row.now) (D.first disk.old) (D.first disk.new) (D.calls disk.old) (D.calls disk.new)
-        (D.strays disk.old) (D.strays disk.new) (D.faults disk.old) (D.faults disk.new) result }
-    ensures luks { IfSome (history_told (D.first disk.old) (D.calls disk.old))
+    ensures reads { Reads (end_of row.now) (D.device disk.old) (D.device disk.new) result }
+    ensures luks { Known (D.device disk.old) (D.device disk.new)
         (λ h. IfOk result (λ luks. luks ≡ is_luks (held h) row.now)) }
 {
     let mut bytes = [0; 6];
@@ -131,9 +127,8 @@ fn is_luks<D: Disk>(disk: &mut D, row: &Row) -> Result<bool, Failed>
 fn read_front<D: Disk>(disk: &mut D, row: &Row, buf: &mut [u8]) -> Result<(), Failed>
     requires row { EndsWell row.now }
     requires size { length buf.old ≤ 512 * row.now.size }
-    ensures reads { Reads (end_of row.now) (D.first disk.old) (D.first disk.new) (D.calls disk.old) (D.calls disk.new)
-        (D.strays disk.old) (D.strays disk.new) (D.faults disk.old) (D.faults disk.new) result }
-    ensures bytes { IfSome (history_told (D.first disk.old) (D.calls disk.old))
+    ensures reads { Reads (end_of row.now) (D.device disk.old) (D.device disk.new) result }
+    ensures bytes { Known (D.device disk.old) (D.device disk.new)
         (λ h. OnOk result (buf.new ≡ bytes_at (held h) (512 * row.now.start) (length buf.old))) }
 {
     disk.read(UNIT * row.start, buf)
@@ -150,9 +145,8 @@ fn has_tree<D: Disk>(
     requires size { 8 ≤ row.now.size }
     requires tree { IfSome tree EndsWell }
     requires room { 24576 ≤ length room.old }
-    ensures reads { Reads (ends_with row.now tree) (D.first disk.old) (D.first disk.new) (D.calls disk.old) (D.calls disk.new)
-        (D.strays disk.old) (D.strays disk.new) (D.faults disk.old) (D.faults disk.new) result }
-    ensures tree { IfSome (history_told (D.first disk.old) (D.calls disk.old))
+    ensures reads { Reads (ends_with row.now tree) (D.device disk.old) (D.device disk.new) result }
+    ensures tree { Known (D.device disk.old) (D.device disk.new)
         (λ h. IfOk result (λ right. right ≡ has_tree (held h) row.now tree)) }
 {
     match tree {

@@ -1,11 +1,11 @@
 //! An image's verdicts.
 
-ghost use Rattle.std.specs.Prelude.{◌≡◌, ◌⊎◌, IfSome, IfOk, IfErr, Err};
+ghost use Rattle.std.specs.Prelude.{◌≡◌, ◌⊎◌, IfOk, IfErr, Err};
 ghost use Rattle.rp_base.specs.Answers.{Gives};
 ghost use Rattle.rp_base.specs.Faults.{Rose};
 ghost use Rattle.rp_base.specs.Geometry.{IsSector};
+ghost use Rattle.rp_disk.specs.Device.{Earlier, Known, StaysInside};
 ghost use Rattle.rp_disk.specs.History.{held};
-ghost use Rattle.rp_disk.specs.Made.{history_told};
 ghost use Rattle.rp_dissect.specs.Dissected.{of_table, verdicts};
 ghost use Rattle.rp_verdict.specs.Verdicts.{AreVerdicts, IsOwn};
 
@@ -24,13 +24,13 @@ pub fn dissect<D: Disk>(
     arch: Arch,
     policy: &Policy,
 ) -> Result<Verdicts, DissectFault>
-    ensures first { D.first disk.new ≡ D.first disk.old }
-    ensures calls { D.calls disk.new ≡ D.calls disk.old }
-    ensures strays { IfSome (D.first disk.old) (λ _. D.strays disk.new ≡ D.strays disk.old) }
-    ensures answer { IfSome (history_told (D.first disk.old) (D.calls disk.old)) (λ h.
+    ensures earlier { Earlier (D.device disk.old) (D.device disk.new) }
+    ensures calls { (D.device disk.new).calls ≡ (D.device disk.old).calls }
+    ensures inside { StaysInside (D.device disk.old) (D.device disk.new) }
+    ensures answer { Known (D.device disk.old) (D.device disk.new) (λ h.
         (result ≡ Err DissectFault.Disk) ⊎ Gives DissectFault.Memory (verdicts 512 (held h) arch policy.now) result) }
-    ensures fault { result ≡ Err DissectFault.Disk → Rose (D.faults disk.old) (D.faults disk.new) }
-    ensures kept { (result ≡ Err DissectFault.Disk) ⊎ (D.faults disk.new ≡ D.faults disk.old) }
+    ensures fault { result ≡ Err DissectFault.Disk → Rose (D.device disk.old).faults (D.device disk.new).faults }
+    ensures kept { (result ≡ Err DissectFault.Disk) ⊎ ((D.device disk.new).faults ≡ (D.device disk.old).faults) }
     ensures verdicts { IfOk result AreVerdicts }
     ensures own { IfErr result IsOwn }
 {
@@ -48,13 +48,13 @@ pub fn dissect_at<D: Disk>(
     sector: u32,
 ) -> Result<Verdicts, DissectFault>
     requires { IsSector sector }
-    ensures first { D.first disk.new ≡ D.first disk.old }
-    ensures calls { D.calls disk.new ≡ D.calls disk.old }
-    ensures strays { IfSome (D.first disk.old) (λ _. D.strays disk.new ≡ D.strays disk.old) }
-    ensures answer { IfSome (history_told (D.first disk.old) (D.calls disk.old)) (λ h.
+    ensures earlier { Earlier (D.device disk.old) (D.device disk.new) }
+    ensures calls { (D.device disk.new).calls ≡ (D.device disk.old).calls }
+    ensures inside { StaysInside (D.device disk.old) (D.device disk.new) }
+    ensures answer { Known (D.device disk.old) (D.device disk.new) (λ h.
         (result ≡ Err DissectFault.Disk) ⊎ Gives DissectFault.Memory (verdicts sector (held h) arch policy.now) result) }
-    ensures fault { result ≡ Err DissectFault.Disk → Rose (D.faults disk.old) (D.faults disk.new) }
-    ensures kept { (result ≡ Err DissectFault.Disk) ⊎ (D.faults disk.new ≡ D.faults disk.old) }
+    ensures fault { result ≡ Err DissectFault.Disk → Rose (D.device disk.old).faults (D.device disk.new).faults }
+    ensures kept { (result ≡ Err DissectFault.Disk) ⊎ ((D.device disk.new).faults ≡ (D.device disk.old).faults) }
     ensures verdicts { IfOk result AreVerdicts }
     ensures own { IfErr result IsOwn }
 {

@@ -1,15 +1,16 @@
 -- What `dissect` promises, by its exit status.
-use Rattle.std.proofs.Common.{ℕ, ◌≡◌, ◌⊎◌, List, [], Bool, Option, Some, None, Result, Ok, Err, refl, sym, ◌∙◌, ap, subst, inl, inr, arith, true≢false}
-use Rattle.std.specs.Prelude.{IfSome}
+use Rattle.std.proofs.Common.{ℕ, ◌≡◌, ◌⊎◌, List, [], Bool, Result, Ok, Err, refl, sym, ◌∙◌, ap, subst, inl, inr, arith, true≢false}
 use Rattle.rp_base.specs.Answers.{Gives}
 use Rattle.rp_denial.specs.Denials.{Denies}
-use Rattle.rp_disk.specs.History.{History, held}
+use Rattle.rp_disk.specs.History.{held}
+use Rattle.rp_disk.specs.Made.{history_of}
+use Rattle.rp_disk.proofs.Noting.{earlier_same}
 use Rattle.rp_dissect.specs.Dissected.{verdicts}
 use Rattle.rp_dissect_command.specs.Dissects.{DissectsRead, Reads, Tells}
 use Rattle.rp_dissect_command.specs.Statuses.{DissectByStatus}
 use Rattle.rp_gpt.specs.declared.table_fault.TableFault.{TableFault}
 use Rattle.rp_gpt.specs.declared.table_fault.TableFault.TheVariants as table
-use Rattle.rp_outcome.specs.Device.{Device, IsOnlyRead, history}
+use Rattle.rp_outcome.specs.Device.{Device, IsOnlyRead, Known}
 use Rattle.rp_outcome.specs.Output.{Output, Finishes, Prints, Refuses}
 use Rattle.rp_outcome.specs.Refusals.{disk_refusal, line_of, memory_refusal, table_refusal}
 use Rattle.rp_policy.specs.declared.judging.Rule.{Rule}
@@ -45,14 +46,16 @@ fault_status (table.Overlap a b) = inl refl
 fault_status table.Memory = inr (inr refl)
 
 -- the answer of a read that told no failure of the disk and no want of memory is what the policy says of the image
-says : (o : Option History) (sector : ℕ) (arch : Arch) (policy : Policy) (answer : Answer) → (answer ≡ Err faults.Disk → ⊥)
+says : (before now : Device) (sector : ℕ) (arch : Arch) (policy : Policy) (answer : Answer) → (answer ≡ Err faults.Disk → ⊥)
     → (answer ≡ Err faults.Memory → ⊥)
-    → IfSome o (λ h. (answer ≡ Err faults.Disk) ⊎ Gives faults.Memory (verdicts sector (held h) arch policy) answer)
-    → IfSome o (λ h. verdicts sector (held h) arch policy ≡ answer)
-says None sector arch policy answer disk memory given = tt
-says (Some h) sector arch policy answer disk memory (inl e) = absurd (disk e)
-says (Some h) sector arch policy answer disk memory (inr (inl e)) = sym e
-says (Some h) sector arch policy answer disk memory (inr (inr e)) = absurd (memory e)
+    → Known before now (λ h. (answer ≡ Err faults.Disk) ⊎ Gives faults.Memory (verdicts sector (held h) arch policy) answer)
+    → Known before now (λ h. verdicts sector (held h) arch policy ≡ answer)
+says before now sector arch policy answer disk memory given = λ past can. of_image (held (history_of past before.calls)) (given past can) where
+  of_image : (image : List ℕ) → (answer ≡ Err faults.Disk) ⊎ Gives faults.Memory (verdicts sector image arch policy) answer
+      → verdicts sector image arch policy ≡ answer
+  of_image image (inl e) = absurd (disk e)
+  of_image image (inr (inl e)) = sym e
+  of_image image (inr (inr e)) = absurd (memory e)
 
 -- want of memory prints nothing
 nothing_printed : (out after : Output) (status : ℕ) → Refuses out after memory_refusal status → Prints out after []
@@ -76,7 +79,7 @@ module _ (arch : Arch) (sector : ℕ) (json : Bool) (disk later : Device) (out a
       sink_kept = λ f. printed.kept;
     };
     one_of = inl e;
-    done = λ f. (v, reads.verdicts, says (history disk) sector arch p (Ok v) (λ f. cc) (λ f. cc) reads.verdicts_are, printed);
+    done = λ f. (v, reads.verdicts, says disk later sector arch p (Ok v) (λ f. cc) (λ f. cc) reads.verdicts_are, printed);
     cut = λ f. clash status 0 9 e f (λ h. omega arith);
     refused = λ f. clash status 0 4 e f (λ h. omega arith);
     denied = λ f. clash status 0 6 e f (λ h. omega arith);
@@ -95,7 +98,7 @@ module _ (arch : Arch) (sector : ℕ) (json : Bool) (disk later : Device) (out a
     };
     one_of = inr (inr (inr (inr (inl e))));
     done = λ f. clash status 9 0 e f (λ h. omega arith);
-    cut = λ f. (v, reads.verdicts, says (history disk) sector arch p (Ok v) (λ f. cc) (λ f. cc) reads.verdicts_are, printed);
+    cut = λ f. (v, reads.verdicts, says disk later sector arch p (Ok v) (λ f. cc) (λ f. cc) reads.verdicts_are, printed);
     refused = λ f. clash status 9 4 e f (λ h. omega arith);
     denied = λ f. clash status 9 6 e f (λ h. omega arith);
     disk_line = λ f. clash status 9 7 e f (λ h. omega arith);
@@ -160,7 +163,7 @@ module _ (arch : Arch) (sector : ℕ) (json : Bool) (disk later : Device) (out a
     done = λ f. clash status 4 0 e f (λ h. omega arith);
     cut = λ f. clash status 4 9 e f (λ h. omega arith);
     refused = λ f.
-        let is = says (history disk) sector arch p (Err (faults.Table fault)) (λ f. cc) (λ f. cc) reads.verdicts_are in
+        let is = says disk later sector arch p (Err (faults.Table fault)) (λ f. cc) (λ f. cc) reads.verdicts_are in
         (fault, image, is, refuses.printed);
     denied = λ f. clash status 4 6 e f (λ h. omega arith);
     disk_line = λ f. clash status 4 7 e f (λ h. omega arith);
@@ -184,7 +187,7 @@ module _ (arch : Arch) (sector : ℕ) (json : Bool) (disk later : Device) (out a
     cut = λ f. clash status 6 9 e f (λ h. omega arith);
     refused = λ f. clash status 6 4 e f (λ h. omega arith);
     denied = λ f.
-        let is = says (history disk) sector arch p (Err (faults.Denied d rule)) (λ f. cc) (λ f. cc) reads.verdicts_are in
+        let is = says disk later sector arch p (Err (faults.Denied d rule)) (λ f. cc) (λ f. cc) reads.verdicts_are in
         inr (d, (rule, is, denies.printed));
     disk_line = λ f. clash status 6 7 e f (λ h. omega arith);
     nothing = λ f. clash status 6 10 e f (λ h. omega arith);
@@ -211,7 +214,7 @@ module _ (arch : Arch) (sector : ℕ) (json : Bool) (disk later : Device) (out a
       → DissectByStatus read arch sector json disk later out after status
   by_status (Ok p) (answer, reads, tells) = by_answer p answer reads tells
   by_status (Err fault) (same, refuses) = let e : status ≡ 6 = refuses.answers in record {
-    only_read = subst (IsOnlyRead disk) (sym same) (record { first = refl; calls = refl; strays = unmoved disk.first });
+    only_read = subst (IsOnlyRead disk) (sym same) (record { calls = refl; earlier = earlier_same disk; inside = λ past can. refl });
     causes = record {
       disk_failed = λ f. clash status 6 7 e f (λ h. omega arith);
       disk_kept = inr (ap (λ (d : Device). d.faults) same);
@@ -227,7 +230,4 @@ module _ (arch : Arch) (sector : ℕ) (json : Bool) (disk later : Device) (out a
     nothing = λ f. clash status 6 10 e f (λ h. omega arith);
     is_refused = λ f. e;
     untouched = λ f. same;
-  } where
-    unmoved : (o : Option (List ℕ)) → IfSome o (λ _. disk.strays ≡ disk.strays)
-    unmoved None = tt
-    unmoved (Some bytes) = refl
+  }

@@ -1,11 +1,11 @@
 -- What `dissect` does.
-use Rattle.std.specs.Prelude.{ℕ, ◌≡◌, ◌⊎◌, List, Bool, Result, Ok, Err, IfSome, IfOk, IfErr}
+use Rattle.std.specs.Prelude.{ℕ, ◌≡◌, ◌⊎◌, List, Bool, Result, Ok, Err, IfOk, IfErr}
 use Rattle.rp_base.specs.Answers.{Gives}
 use Rattle.rp_base.specs.Faults.{Rose}
 use Rattle.rp_denial.specs.Denials.{Denies, policy_refusal}
 use Rattle.rp_disk.specs.History.{held}
 use Rattle.rp_dissect.specs.Dissected.{verdicts}
-use Rattle.rp_outcome.specs.Device.{Device, IsOnlyRead, history}
+use Rattle.rp_outcome.specs.Device.{Device, IsOnlyRead, Known}
 use Rattle.rp_outcome.specs.Output.{Output, Finishes, Refuses}
 use Rattle.rp_outcome.specs.Refusals.{disk_refusal, memory_refusal, table_refusal}
 use Rattle.rp_policy.specs.Reading.{policy_of}
@@ -18,11 +18,11 @@ use Rattle.rp_verdict.specs.declared.verdict.DissectFault.TheVariants as faults
 use Rattle.rp_verdict.specs.declared.verdict.Verdicts.{Verdicts}
 use Rattle.rp_verdict_text.specs.Reports.{verdict_report}
 
--- a disk was read alone, with this answer: the verdicts on the image where the disk tells it, but for a failure of the disk,
--- which it counted, and want of memory; and over every disk a verdict for each designator, none of which denies, or a fault
+-- a disk was read alone, with this answer: the verdicts on the image of each past that the disk can have, but for a failure of
+-- the disk, which it counted, and want of memory; a verdict for each designator, none of which denies, or a fault
 pub record Reads (policy : Policy) (arch : Arch) (sector : ℕ) (before now : Device) (answer : Result Verdicts DissectFault) : Type 0 where
   pub only_read : IsOnlyRead before now
-  pub verdicts_are : IfSome (history before) (λ h. (answer ≡ Err faults.Disk)
+  pub verdicts_are : Known before now (λ h. (answer ≡ Err faults.Disk)
       ⊎ Gives faults.Memory (verdicts sector (held h) arch policy) answer)
   pub failed : answer ≡ Err faults.Disk → Rose before.faults now.faults
   pub kept : (answer ≡ Err faults.Disk) ⊎ (now.faults ≡ before.faults)

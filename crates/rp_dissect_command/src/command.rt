@@ -1,6 +1,5 @@
 ghost use Rattle.rp_base.specs.Geometry.{IsSector};
 ghost use Rattle.rp_dissect_command.specs.Dissects.{Dissects, DissectsBy, TellsFault};
-ghost use Rattle.rp_outcome.specs.Device.{device};
 ghost use Rattle.rp_outcome.specs.Output.{output};
 
 use rp_base::Memory;
@@ -29,7 +28,7 @@ pub fn dissect<D: Disk, K: Sink>(
 ) -> u8
     requires { IsSector sector }
     ensures { Dissects text.now arch sector json
-        (device D.first D.calls D.faults D.strays disk.old) (device D.first D.calls D.faults D.strays disk.new)
+        (D.device disk.old) (D.device disk.new)
         (output K.told K.faults out.old) (output K.told K.faults out.new) result }
 {
     match parse(text) {
@@ -49,7 +48,7 @@ fn dissect_by<D: Disk, K: Sink>(
 ) -> u8
     requires { IsSector sector }
     ensures { DissectsBy policy.now arch sector json
-        (device D.first D.calls D.faults D.strays disk.old) (device D.first D.calls D.faults D.strays disk.new)
+        (D.device disk.old) (D.device disk.new)
         (output K.told K.faults out.old) (output K.told K.faults out.new) result }
 {
     let verdicts = match dissect_at(alloc, disk, arch, policy, sector) {

@@ -3,11 +3,11 @@ use Rattle.std.proofs.Common.{◌≡◌, ℕ, ◌+◌, ◌-◌, ◌*◌, ◌<◌
 use Rattle.std.specs.Prelude.{IsErr, nat_lt, unwrap_or}
 use Rattle.std.proofs.lemmas.Bool.{le-ltb}
 use Rattle.std.proofs.lemmas.List.{append-nil, length-replicate}
-use Rattle.rp_base.specs.Faults.{CountsStray}
 use Rattle.rp_base.specs.Image.{bytes_at}
 use Rattle.rp_disk.specs.Calls.{overwritten, resized}
 use Rattle.rp_disk.specs.History.{held}
-use Rattle.rp_disk.specs.Made.{Made, Done, dones, history_of, history_told}
+use Rattle.rp_disk.specs.Device.{Device, StaysInsideWhere}
+use Rattle.rp_disk.specs.Made.{Made, Done, Past, dones, history_of}
 use Rattle.rp_disk.specs.Ranges.{Inside}
 use Rattle.rp_disk.specs.Runs.{BrokeOff, Runs}
 use Rattle.rp_disk.specs.Stops.{Each}
@@ -28,51 +28,35 @@ use Rattle.rp_fill.proofs.Pieces.{all_pieces, piece-put, piece_call, piece_in, p
 -- strays
 
 -- no call went past the end of a disk that reaches so far
-unfoldable pub StaysIn : Option (List ℕ) → List Made → ℕ → ℕ → ℕ → Type 0
-StaysIn first calls end old new = IfSome (history_told first calls) (λ h. end ≤ length (held h) → new ≡ old)
+unfoldable pub StaysIn : Device → Device → ℕ → Type 0
+StaysIn old now end = StaysInsideWhere old now (λ h. end ≤ length (held h))
 
-pub stays_in : (first : Option (List ℕ)) (calls : List Made) (end old new : ℕ)
-    → IfSome (history_told first calls) (λ h. end ≤ length (held h) → new ≡ old) → StaysIn first calls end old new
+pub stays_in : (old now : Device) (end : ℕ) → StaysInsideWhere old now (λ h. end ≤ length (held h)) → StaysIn old now end
 unfolding StaysIn
-stays_in first calls end old new stays = stays
+stays_in old now end stays = stays
 
-pub stays_says : (first : Option (List ℕ)) (calls : List Made) (end old new : ℕ) → StaysIn first calls end old new
-    → IfSome (history_told first calls) (λ h. end ≤ length (held h) → new ≡ old)
+pub stays_says : (old now : Device) (end : ℕ) → StaysIn old now end → StaysInsideWhere old now (λ h. end ≤ length (held h))
 unfolding StaysIn
-stays_says first calls end old new stays = stays
+stays_says old now end stays = stays
 
-pub stays_none : (first : Option (List ℕ)) (calls : List Made) (end strays : ℕ) → StaysIn first calls end strays strays
+pub stays_none : (old : Device) (end : ℕ) → StaysIn old old end
 unfolding StaysIn
-stays_none None calls end strays = tt
-stays_none (Some bytes) calls end strays = λ reaches. refl
+stays_none old end = λ past reaches. refl
 
 -- calls inside a disk keep its length
-same_length : (bytes : List ℕ) (old : List Made) (calls : List Call) (end : ℕ) → Each (Inside (length (held (history_of bytes old)))) calls
-    → length (held (history_of bytes (old ++ dones calls))) ≡ length (held (history_of bytes old))
-same_length bytes old calls end inside =
-    ap (λ h. length (held h)) (history_of-dones bytes old calls) ∙ ap length (held-all_did (history_of bytes old) calls)
-    ∙ length-all_done calls (held (history_of bytes old)) _ refl inside
+same_length : (past : Past) (old : List Made) (calls : List Call) → Each (Inside (length (held (history_of past old)))) calls
+    → length (held (history_of past (old ++ dones calls))) ≡ length (held (history_of past old))
+same_length past old calls inside =
+    ap (λ h. length (held h)) (history_of-dones past old calls) ∙ ap length (held-all_did (history_of past old) calls)
+    ∙ length-all_done calls (held (history_of past old)) _ refl inside
 
-pub stays_more : (first then_first : Option (List ℕ)) (old mid : List Made) (calls : List Call) (end some a b c : ℕ)
-    → ((n : ℕ) → end ≤ n → Each (Inside n) calls) → then_first ≡ first → mid ≡ old ++ dones calls → some ≤ end
-    → StaysIn first old end a b → StaysIn then_first mid some b c → StaysIn first old end a c
+pub stays_more : (old mid now : Device) (calls : List Call) (end some : ℕ) → ((n : ℕ) → end ≤ n → Each (Inside n) calls)
+    → mid.calls ≡ old.calls ++ dones calls → some ≤ end → StaysIn old mid end → StaysIn mid now some → StaysIn old now end
 unfolding StaysIn
-stays_more None then_first old mid calls end some a b c inside same so fits before after = tt
-stays_more (Some bytes) then_first old mid calls end some a b c inside same so fits before after = λ reaches.
-    let later : IfSome (history_told (Some bytes) (old ++ dones calls)) (λ h. some ≤ length (held h) → c ≡ b) =
-    rw so at (rw same at after) in
-    let long = same_length bytes old calls end (inside _ reaches) in
-    later (omega (arith, long)) ∙ before reaches
-
-stray_stays : (first : Option (List ℕ)) (calls : List Made) (end old new : ℕ)
-    → IfSome (history_told first calls) (λ h. CountsStray (nat_lt (length (held h)) end) old new) → StaysIn first calls end old new
-unfolding StaysIn
-stray_stays None calls end old new counts = tt
-stray_stays (Some bytes) calls end old new counts = λ reaches. counts.kept (le-ltb _ _ reaches)
-
-pub stays_at : (first : Option (List ℕ)) (calls : List Made) (end old new : ℕ)
-    → IfSome (history_told first calls) (λ h. CountsStray (nat_lt (length (held h)) end) old new) → StaysIn first calls end old new
-stays_at = stray_stays
+stays_more old mid now calls end some inside so fits before after = λ past reaches.
+    let long : length (held (history_of past mid.calls)) ≡ length (held (history_of past old.calls)) =
+    ap (λ (l : List Made). length (held (history_of past l))) so ∙ same_length past old.calls calls (inside _ reaches) in
+    after past (omega (arith, long, reaches)) ∙ before past reaches
 
 -- no call passed the end of a file that reaches so far
 unfoldable pub Reaches : Option (List Stored) → List ℕ → ℕ → ℕ → ℕ → Type 0
@@ -247,18 +231,18 @@ copied_part (Err Source) told path len at k old now new read so below size is =
 
 -- strays while pieces are written
 
-pub stays_pieces : (first then_first : Option (List ℕ)) (old mid : List Made) (at len k some a b c : ℕ) (bytes : List ℕ)
-    → length bytes ≡ len → k ≤ pieces len → then_first ≡ first → mid ≡ old ++ dones (some_pieces at bytes k) → some ≤ at + len
-    → StaysIn first old (at + len) a b → StaysIn then_first mid some b c → StaysIn first old (at + len) a c
-stays_pieces first then_first old mid at len k some a b c bytes long few same so fits before after =
-    stays_more first then_first old mid (some_pieces at bytes k) (at + len) some a b c
-    (λ n le. pieces-inside at bytes k n (omega (arith, long, le)) (rw long few)) same so fits before after
+pub stays_pieces : (old mid now : Device) (at len k some : ℕ) (bytes : List ℕ) → length bytes ≡ len → k ≤ pieces len
+    → mid.calls ≡ old.calls ++ dones (some_pieces at bytes k) → some ≤ at + len
+    → StaysIn old mid (at + len) → StaysIn mid now some → StaysIn old now (at + len)
+stays_pieces old mid now at len k some bytes long few so fits before after =
+    stays_more old mid now (some_pieces at bytes k) (at + len) some
+    (λ n le. pieces-inside at bytes k n (omega (arith, long, le)) (rw long few)) so fits before after
 
-pub stays_copied : (first then_first : Option (List ℕ)) (told : Option (List Stored)) (path : List ℕ) (old mid : List Made) (at len k some a b c : ℕ)
-    → k ≤ pieces len → then_first ≡ first → CopiedSoFar told path len at k old mid → some ≤ at + len
-    → StaysIn first old (at + len) a b → StaysIn then_first mid some b c → StaysIn first old (at + len) a c
-stays_copied first then_first told path old mid at len k some a b c few same so fits before after =
-    stays_pieces first then_first old mid at len k some a b c so.bytes so.copy.size few same so.made fits before after
+pub stays_copied : (old mid now : Device) (told : Option (List Stored)) (path : List ℕ) (at len k some : ℕ)
+    → k ≤ pieces len → CopiedSoFar told path len at k old.calls mid.calls → some ≤ at + len
+    → StaysIn old mid (at + len) → StaysIn mid now some → StaysIn old now (at + len)
+stays_copied old mid now told path at len k some few so fits before after =
+    stays_pieces old mid now at len k some so.bytes so.copy.size few so.made fits before after
 
 -- a run that ended so
 pub run_ended : {T E : Type 0} (result : Result T E) (told : Option (List Stored)) (path : List ℕ) (len at : ℕ) (old new : List Made)

@@ -36,7 +36,7 @@ zeros_all at len k old new so all =
 
 pub zeros_part : (at len k : ℕ) (room bytes : List ℕ) (old now new : List Made) → ZerosSoFar at len k old now → room ≡ replicate (length room) 0
     → AreNext len k room bytes → k < pieces len
-    → (new ≡ now) ⊎ ((after : List ℕ) × (new ≡ now ++ Broke (Write (at + piece * k) bytes) after ∷ []))
+    → (new ≡ now) ⊎ (new ≡ now ++ Broke (Write (at + piece * k) bytes) ∷ [])
     → BrokeOff old (in_pieces at (replicate len 0)) new
 zeros_part at len k room bytes old now new so zeros next below failed =
     let e = next_call at len k room bytes zeros next in

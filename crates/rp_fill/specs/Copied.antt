@@ -29,5 +29,5 @@ IsRead told path from read = IfSome told (λ files. Reads (content files path) f
 abbrev pub CopiesPiece : {T : Type 0} → Option (List Stored) → List ℕ → ℕ → ℕ → List ℕ → List Made → List Made → Result T FillFault → Type 0
 CopiesPiece told path from at read old new (Ok value) = IsRead told path from read × (new ≡ old ++ Done (Write (at + from) read) ∷ [])
 CopiesPiece told path from at read old new (Err Disk) =
-    IsRead told path from read × ((new ≡ old) ⊎ ((after : List ℕ) × (new ≡ old ++ Broke (Write (at + from) read) after ∷ [])))
+    IsRead told path from read × ((new ≡ old) ⊎ (new ≡ old ++ Broke (Write (at + from) read) ∷ []))
 CopiesPiece told path from at read old new (Err Source) = new ≡ old

@@ -6,7 +6,7 @@ use Rattle.std.proofs.lemmas.Slice.Eq.{bytes_eq-Decides}
 use Rattle.rp_base.specs.declared.faults.Failed.{Failed}
 use Rattle.rp_disk.specs.declared.call.Call.{Call}
 use Rattle.rp_disk.specs.History.{IsLawful}
-use Rattle.rp_disk.specs.Made.{Made, Done, Broke, count_done, dones, history_told}
+use Rattle.rp_disk.specs.Made.{Past, Made, Done, Broke, count_done, dones, history_told}
 use Rattle.rp_disk.specs.Runs.{AreFirst, BrokeOff, MadeFirst}
 use Rattle.rp_disk.proofs.Runs.{first_of_longer}
 use Rattle.rp_verity.specs.Order.{order}
@@ -24,7 +24,7 @@ first_count : (made : List Made) (plan : List Call) → AreFirst made plan → c
 first_count [] plan are = omega arith
 first_count (made ∷ mades) [] are = absurd are
 first_count (Done call ∷ mades) (due ∷ plan) are = let more = first_count mades plan are.1 in omega arith
-first_count (Broke call after ∷ mades) (due ∷ plan) are =
+first_count (Broke call ∷ mades) (due ∷ plan) are =
     subst (λ (l : List Made). count_done l ≤ suc (length plan)) (sym are.1) (omega arith)
 
 -- the first of some calls are a shorter part of these with one more
@@ -43,7 +43,7 @@ tree_err (Ok x) tree taken old new err broke = absurd (let no = err in cc)
 tree_err (Err e) tree taken old new err broke = record { done = tt; failed = broke }
 
 -- the hash blocks' writes keep the length
-pub hash_length : (tree : TreePlan) (taken : List (List ℕ)) (first : Option (List ℕ)) (old new : List Made)
+pub hash_length : (tree : TreePlan) (taken : List (List ℕ)) (first : Option Past) (old new : List Made)
     → new ≡ old ++ dones (hash_calls tree taken)
     → IfSome (history_told first new) IsLawful → SameLength first old new
 unfolding tree_writes

@@ -11,7 +11,7 @@ use Rattle.rp_base.specs.declared.faults.Failed.{Failed}
 use Rattle.rp_disk.specs.declared.call.Call.{Call}
 use Rattle.rp_disk.specs.Calls.{resized}
 use Rattle.rp_disk.specs.History.{IsLawful, held}
-use Rattle.rp_disk.specs.Made.{Made, dones, history_of, history_told}
+use Rattle.rp_disk.specs.Made.{Past, Made, dones, history_of, history_told}
 use Rattle.rp_disk.specs.Ranges.{Apart}
 use Rattle.rp_disk.specs.Runs.{BrokeOff, MadeFirst}
 use Rattle.rp_disk.specs.Stops.{Each}
@@ -39,7 +39,7 @@ abbrev pub row_bytes : TreePlan → List ℕ → List ℕ
 row_bytes tree image = bytes_at image tree.data_at (4096 * tree.blocks)
 
 -- so many data blocks were taken, and of the writes all that they fill were made
-pub record SoFar (tree : TreePlan) (first : Option (List ℕ)) (old : List Made) (builder : Builder) (k : ℕ) (now : List Made)
+pub record SoFar (tree : TreePlan) (first : Option Past) (old : List Made) (builder : Builder) (k : ℕ) (now : List Made)
     (taken : List (List ℕ)) : Type 0 where
   pub has : HasTaken builder tree.salt taken
   pub count : length taken ≡ k
@@ -49,16 +49,22 @@ pub record SoFar (tree : TreePlan) (first : Option (List ℕ)) (old : List Made)
   pub calls : (rest : List (List ℕ)) → length (taken ++ rest) ≡ tree.blocks
       → now ≡ old ++ dones (writes_of tree.hash_at (so_far_puts tree (taken ++ rest) k))
 
-none_shown : (tree : TreePlan) (first : Option (List ℕ)) (old : List Made)
+none_shown : (tree : TreePlan) (first : Option Past) (old : List Made)
     → IfSome first (λ bytes. tree.data_at + 4096 * 0 ≤ length (held (history_of bytes old))
     → [] ≡ cut 0 (row_bytes tree (held (history_of bytes old))))
 none_shown tree None old = tt
 none_shown tree (Some bytes) old = λ fits. refl
 
-pub so_far_none : (tree : TreePlan) (first : Option (List ℕ)) (old : List Made) (builder : Builder) → HasTaken builder tree.salt []
+pub so_far_none : (tree : TreePlan) (first : Option Past) (old : List Made) (builder : Builder) → HasTaken builder tree.salt []
     → SoFar tree first old builder 0 old []
 so_far_none tree first old builder has =
     record { has = has; count = refl; whole = All-nil IsBlock; shown = none_shown tree first old; calls = λ rest all. sym (append-nil old) }
+
+pub so_far_same : (tree : TreePlan) (first : Option Past) (old : List Made) (builder : Builder) (k j : ℕ) (mid now : List Made)
+    (taken : List (List ℕ)) → SoFar tree first old builder k mid taken → k ≡ j → now ≡ mid → SoFar tree first old builder j now taken
+so_far_same tree first old builder k j mid now taken so at same =
+    subst (λ (i : ℕ). SoFar tree first old builder i now taken) at
+    (subst (λ (l : List Made). SoFar tree first old builder k l taken) (sym same) so)
 
 -- a run whose first part is known
 pub made_within : (old mid new : List Made) (calls plan rest whole : List Call) → mid ≡ old ++ dones calls → MadeFirst mid plan new
@@ -99,7 +105,7 @@ blocks_outside : (tree : TreePlan) (plan : IsTreePlan tree) (k count : ℕ) → 
 blocks_outside tree plan k count below = elim plan.apart [ inl low ↦ inl (omega arith) | inr high ↦ inr (omega arith) ]
 
 -- so where the disk tells, its length and the next data blocks are as they were
-pub length_so_far : (tree : TreePlan) (first : Option (List ℕ)) (old : List Made) (builder : Builder) (k : ℕ) (now : List Made)
+pub length_so_far : (tree : TreePlan) (first : Option Past) (old : List Made) (builder : Builder) (k : ℕ) (now : List Made)
     (taken : List (List ℕ)) → SoFar tree first old builder k now taken → k ≤ tree.blocks → IfSome (history_told first now) IsLawful
     → SameLength first old now
 length_so_far tree first old builder k now taken so few lawful =
@@ -108,7 +114,7 @@ length_so_far tree first old builder k now taken so few lawful =
     same_length first old now (writes_of tree.hash_at puts) (so.calls rest (fill_up tree k taken so.count few))
     (writes-are tree.hash_at puts) lawful
 
-range_so_far : (tree : TreePlan) (plan : IsTreePlan tree) (first : Option (List ℕ)) (old : List Made) (builder : Builder) (k count : ℕ)
+range_so_far : (tree : TreePlan) (plan : IsTreePlan tree) (first : Option Past) (old : List Made) (builder : Builder) (k count : ℕ)
     (now : List Made) (taken : List (List ℕ)) → SoFar tree first old builder k now taken → k + count ≤ tree.blocks
     → IfSome (history_told first now) IsLawful → SameRange (tree.data_at + 4096 * k) (4096 * count) first old now
 range_so_far tree plan first old builder k count now taken so below lawful =
@@ -134,7 +140,7 @@ bytes_within image at m a n inside =
     ∙ sym (bytes_at-take image (at + a) n)
 
 -- data blocks that were read when so many were taken: they are still as at first
-pub run_shown : (tree : TreePlan) (plan : IsTreePlan tree) (first : Option (List ℕ)) (old : List Made) (builder : Builder) (k count : ℕ)
+pub run_shown : (tree : TreePlan) (plan : IsTreePlan tree) (first : Option Past) (old : List Made) (builder : Builder) (k count : ℕ)
     (now : List Made) (taken : List (List ℕ)) (run : List ℕ) → SoFar tree first old builder k now taken → k + count ≤ tree.blocks
     → IfSome (history_told first now) IsLawful
     → IfSome (history_told first now) (λ h. tree.data_at + 4096 * k + 4096 * count ≤ length (held h))
@@ -146,7 +152,7 @@ run_shown tree plan first old builder k count now taken run so below lawful reac
     (range_so_far tree plan first old builder k count now taken so below lawful) reaches read
 
 -- one of them is the data block of its number
-pub run_block : (tree : TreePlan) (first : Option (List ℕ)) (old : List Made) (k count i : ℕ) (run : List ℕ) → length run ≡ 4096 * count
+pub run_block : (tree : TreePlan) (first : Option Past) (old : List Made) (k count i : ℕ) (run : List ℕ) → length run ≡ 4096 * count
     → i < count → IfSome (history_told first old) (λ h. run ≡ bytes_at (held h) (tree.data_at + 4096 * k) (4096 * count))
     → IsBlockAt tree (k + i) first old (bytes_at run (4096 * i) 4096)
 run_block tree None old k count i run long below is = record { size = length-bytes_at run (4096 * i) 4096 (omega arith); shown = tt }
@@ -161,11 +167,11 @@ run_block tree (Some bytes) old k count i run long below is = record {
 }
 
 -- the data blocks with these digests, from that of this number on
-abbrev pub AreRead : TreePlan → ℕ → ℕ → Option (List ℕ) → List Made → List (List ℕ) → Type 0
+abbrev pub AreRead : TreePlan → ℕ → ℕ → Option Past → List Made → List (List ℕ) → Type 0
 AreRead tree k count first old digests =
     (i : ℕ) → i < count → (block : List ℕ) × (slice_index_or digests i [] ≡ digest tree.salt block) × IsBlockAt tree (k + i) first old block
 
-pub run_read : (tree : TreePlan) (plan : IsTreePlan tree) (first : Option (List ℕ)) (old : List Made) (builder : Builder) (k count n : ℕ)
+pub run_read : (tree : TreePlan) (plan : IsTreePlan tree) (first : Option Past) (old : List Made) (builder : Builder) (k count n : ℕ)
     (now : List Made) (taken : List (List ℕ)) (run : List ℕ) (digests : List (List ℕ)) → SoFar tree first old builder k now taken
     → k + count ≤ tree.blocks → n ≡ 4096 * count → length run ≡ n → IfSome (history_told first now) IsLawful
     → IfSome (history_told first now) (λ h. tree.data_at + 4096 * k + n ≤ length (held h))
@@ -190,7 +196,7 @@ next_shown : (tree : TreePlan) (image : List ℕ) (k : ℕ) (block : List ℕ) �
     → block ≡ bytes_at image (tree.data_at + 4096 * k) 4096 → block ≡ bytes_at (row_bytes tree image) (4096 * k) 4096
 next_shown tree image k block below is = is ∙ sym (bytes_within image tree.data_at (4096 * tree.blocks) (4096 * k) 4096 (omega arith))
 
-more_shown : (tree : TreePlan) (first : Option (List ℕ)) (old : List Made) (k : ℕ) (taken : List (List ℕ)) (block : List ℕ)
+more_shown : (tree : TreePlan) (first : Option Past) (old : List Made) (k : ℕ) (taken : List (List ℕ)) (block : List ℕ)
     → k < tree.blocks → IsBlockAt tree k first old block
     → IfSome first (λ bytes. tree.data_at + 4096 * k ≤ length (held (history_of bytes old))
     → taken ≡ cut k (row_bytes tree (held (history_of bytes old))))
@@ -206,7 +212,7 @@ more_shown tree (Some bytes) old k taken block below is so = λ fits.
     ∙ sym (map-range_with_len_more (λ j. bytes_at row (4096 * j) 4096) 0 k k (omega arith))
 
 -- one data block more
-pub so_far_more : {T E : Type 0} (x : T) (tree : TreePlan) (first : Option (List ℕ)) (old : List Made) (builder after : Builder)
+pub so_far_more : {T E : Type 0} (x : T) (tree : TreePlan) (first : Option Past) (old : List Made) (builder after : Builder)
     (k : ℕ) (mid new : List Made) (taken : List (List ℕ)) (block : List ℕ) → SoFar tree first old builder k mid taken → k < tree.blocks
     → IsBlockAt tree k first old block → TakesBlock {T = T} {E = E} tree k builder after mid new block (Ok x)
     → SoFar tree first old after (k + 1) new (taken ++ block ∷ [])
@@ -232,7 +238,7 @@ resized_same bytes n long =
     rw (none, take_all n bytes (omega arith)) (append-nil bytes)
 
 -- a data block that the disk shows, or zeros
-pub some_block : (tree : TreePlan) (k : ℕ) (first : Option (List ℕ)) (made : List Made)
+pub some_block : (tree : TreePlan) (k : ℕ) (first : Option Past) (made : List Made)
     → (block : List ℕ) × IsBlockAt tree k first made block
 some_block tree k None made = (replicate 4096 0, record { size = length-replicate {A = ℕ} 4096 0; shown = tt })
 some_block tree k (Some bytes) made =
@@ -276,10 +282,10 @@ whole_row tree k row below long =
     ap (λ (l : List (List ℕ)). map f (range_with_len 0 (k + 1)) ++ l) same ∙ sym parts
 
 -- what was taken so far and the block that was read, as first blocks of a whole row of blocks
-abbrev RowOf : TreePlan → Option (List ℕ) → List Made → List (List ℕ) → Type 0
+abbrev RowOf : TreePlan → Option Past → List Made → List (List ℕ) → Type 0
 RowOf tree first old front = (rest : List (List ℕ)) × AreBlocks tree.blocks (front ++ rest) × AreShown tree first old (front ++ rest)
 
-row_of : (tree : TreePlan) (first : Option (List ℕ)) (old : List Made) (k : ℕ) (front : List (List ℕ)) → k < tree.blocks
+row_of : (tree : TreePlan) (first : Option Past) (old : List Made) (k : ℕ) (front : List (List ℕ)) → k < tree.blocks
     → length front ≡ k + 1 → All IsBlock front
     → IfSome first (λ bytes. tree.data_at + 4096 * (k + 1) ≤ length (held (history_of bytes old))
     → front ≡ cut (k + 1) (row_bytes tree (held (history_of bytes old))))
@@ -306,7 +312,7 @@ row_of tree (Some bytes) old k front below count whole is =
     )
 
 -- it broke off at a data block: the data blocks with those that come still
-pub so_far_broke : {T E : Type 0} (e : E) (tree : TreePlan) (first : Option (List ℕ)) (old : List Made) (builder after : Builder)
+pub so_far_broke : {T E : Type 0} (e : E) (tree : TreePlan) (first : Option Past) (old : List Made) (builder after : Builder)
     (k : ℕ) (mid new : List Made) (taken : List (List ℕ)) (block : List ℕ) → SoFar tree first old builder k mid taken → k < tree.blocks
     → IsBlockAt tree k first old block → TakesBlock {T = T} {E = E} tree k builder after mid new block (Err e)
     → (all : List (List ℕ)) × AreBlocks tree.blocks all × AreShown tree first old all × MadeFirst old (hash_calls tree all) new
@@ -327,7 +333,7 @@ so_far_broke e tree first old builder after k mid new taken block so below is ta
     (front ++ rest, found.1, found.2, subst (λ (l : List (List ℕ)). MadeFirst old (hash_calls tree l) new) (sym one) made)
 
 -- it broke off before the next data block was taken
-pub so_far_stopped : (tree : TreePlan) (first : Option (List ℕ)) (old : List Made) (builder : Builder) (k : ℕ) (mid new : List Made)
+pub so_far_stopped : (tree : TreePlan) (first : Option Past) (old : List Made) (builder : Builder) (k : ℕ) (mid new : List Made)
     (taken : List (List ℕ)) → SoFar tree first old builder k mid taken → k < tree.blocks → new ≡ mid
     → (all : List (List ℕ)) × AreBlocks tree.blocks all × AreShown tree first old all × MadeFirst old (hash_calls tree all) new
 so_far_stopped tree first old builder k mid new taken so below same =
@@ -339,22 +345,22 @@ so_far_stopped tree first old builder k mid new taken so below same =
     })
 
 -- all were taken
-pub so_far_blocks : (tree : TreePlan) (first : Option (List ℕ)) (old : List Made) (builder : Builder) (now : List Made)
+pub so_far_blocks : (tree : TreePlan) (first : Option Past) (old : List Made) (builder : Builder) (now : List Made)
     (taken : List (List ℕ)) → SoFar tree first old builder tree.blocks now taken → AreBlocks tree.blocks taken
 so_far_blocks tree first old builder now taken so = record { count = so.count; whole = so.whole }
 
-pub so_far_shown : (tree : TreePlan) (first : Option (List ℕ)) (old : List Made) (builder : Builder) (now : List Made)
+pub so_far_shown : (tree : TreePlan) (first : Option Past) (old : List Made) (builder : Builder) (now : List Made)
     (taken : List (List ℕ)) → SoFar tree first old builder tree.blocks now taken → AreShown tree first old taken
 so_far_shown tree None old builder now taken so = tt
 so_far_shown tree (Some bytes) old builder now taken so = so.shown
 
-so_far_calls : (tree : TreePlan) (first : Option (List ℕ)) (old : List Made) (builder : Builder) (now : List Made)
+so_far_calls : (tree : TreePlan) (first : Option Past) (old : List Made) (builder : Builder) (now : List Made)
     (taken : List (List ℕ)) → SoFar tree first old builder tree.blocks now taken
     → now ≡ old ++ dones (writes_of tree.hash_at (so_far_puts tree taken tree.blocks))
 so_far_calls tree first old builder now taken so =
     rw (append-nil taken) at (so.calls [] (ap length (append-nil taken) ∙ so.count))
 
-pub so_far_done : (tree : TreePlan) (first : Option (List ℕ)) (old : List Made) (builder : Builder) (mid new : List Made)
+pub so_far_done : (tree : TreePlan) (first : Option Past) (old : List Made) (builder : Builder) (mid new : List Made)
     (taken : List (List ℕ)) → SoFar tree first old builder tree.blocks mid taken
     → new ≡ mid ++ dones (writes_of tree.hash_at (left_puts tree taken)) → new ≡ old ++ dones (hash_calls tree taken)
 so_far_done tree first old builder mid new taken so done =
@@ -362,7 +368,7 @@ so_far_done tree first old builder mid new taken so done =
     (so_far_calls tree first old builder mid taken so) done
     ∙ ap (λ (l : List Call). old ++ dones l) (sym (all-split tree taken))
 
-pub so_far_left : (tree : TreePlan) (first : Option (List ℕ)) (old : List Made) (builder : Builder) (mid new : List Made)
+pub so_far_left : (tree : TreePlan) (first : Option Past) (old : List Made) (builder : Builder) (mid new : List Made)
     (taken : List (List ℕ)) → SoFar tree first old builder tree.blocks mid taken
     → MadeFirst mid (writes_of tree.hash_at (left_puts tree taken)) new → MadeFirst old (hash_calls tree taken) new
 so_far_left tree first old builder mid new taken so made =
@@ -372,42 +378,42 @@ so_far_left tree first old builder mid new taken so made =
     (sym (append-nil (writes_of tree.hash_at (left_puts tree taken)))))
 
 -- where a disk tells, it has the data blocks that were taken
-unfoldable pub Reaches : TreePlan → ℕ → Option (List ℕ) → List Made → Type 0
+unfoldable pub Reaches : TreePlan → ℕ → Option Past → List Made → Type 0
 Reaches tree k first old = IfSome (history_told first old) (λ h. 1 ≤ k → tree.data_at + 4096 * k ≤ length (held h))
 
-pub reaches_none : (tree : TreePlan) (first : Option (List ℕ)) (old : List Made) → Reaches tree 0 first old
+pub reaches_none : (tree : TreePlan) (first : Option Past) (old : List Made) → Reaches tree 0 first old
 unfolding Reaches
 reaches_none tree None old = tt
 reaches_none tree (Some bytes) old = λ some. absurd (omega arith)
 
-pub reaches_more : (tree : TreePlan) (k : ℕ) (first : Option (List ℕ)) (old mid : List Made) → SameLength first old mid
+pub reaches_more : (tree : TreePlan) (k : ℕ) (first : Option Past) (old mid : List Made) → SameLength first old mid
     → IfSome (history_told first mid) (λ h. tree.data_at + 4096 * k ≤ length (held h)) → Reaches tree k first old
 unfolding Reaches SameLength
 reaches_more tree k None old mid same range = tt
 reaches_more tree k (Some bytes) old mid same range = λ some. omega arith
 
 -- it has those that were read
-pub reaches_run : (tree : TreePlan) (k count n m : ℕ) (first : Option (List ℕ)) (old mid : List Made) → SameLength first old mid
+pub reaches_run : (tree : TreePlan) (k count n m : ℕ) (first : Option Past) (old mid : List Made) → SameLength first old mid
     → n ≡ 4096 * count → m ≡ k + count → IfSome (history_told first mid) (λ h. tree.data_at + 4096 * k + n ≤ length (held h))
     → Reaches tree m first old
 reaches_run tree k count n m first old mid same size all range =
     reaches_more tree m first old mid same (told_so (history_told first mid) _ _ (λ h fits. omega arith) range)
 
-pub reaches_all : (tree : TreePlan) (first : Option (List ℕ)) (old : List Made) → 1 ≤ tree.blocks → Reaches tree tree.blocks first old
+pub reaches_all : (tree : TreePlan) (first : Option Past) (old : List Made) → 1 ≤ tree.blocks → Reaches tree tree.blocks first old
     → IfSome (history_told first old) (λ h. data_end tree ≤ length (held h))
 unfolding Reaches
 reaches_all tree None old some reaches = tt
 reaches_all tree (Some bytes) old some reaches = reaches some
 
 -- for answers: a failure while data blocks are taken
-pub writes_err : (result : Result (List ℕ) Failed) (tree : TreePlan) (first : Option (List ℕ)) (old new : List Made) → IsErr result
+pub writes_err : (result : Result (List ℕ) Failed) (tree : TreePlan) (first : Option Past) (old new : List Made) → IsErr result
     → (all : List (List ℕ)) × AreBlocks tree.blocks all × AreShown tree first old all × MadeFirst old (hash_calls tree all) new
     → WritesAll tree first old new result
 writes_err (Ok x) tree first old new err made = absurd (let no = err in cc)
 writes_err (Err e) tree first old new err made = (made.0, made.1, made.2, record { done = tt; root = tt; failed = made.3 })
 
 -- and the end, when all were taken
-pub writes_hashes : (result : Result (List ℕ) Failed) (tree : TreePlan) (first : Option (List ℕ)) (old : List Made) (builder : Builder)
+pub writes_hashes : (result : Result (List ℕ) Failed) (tree : TreePlan) (first : Option Past) (old : List Made) (builder : Builder)
     (mid new : List Made)
     (taken : List (List ℕ)) → SoFar tree first old builder tree.blocks mid taken
     → OnOk result (new ≡ mid ++ dones (writes_of tree.hash_at (left_puts tree taken)))

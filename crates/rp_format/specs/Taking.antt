@@ -4,7 +4,7 @@ use Rattle.rp_base.specs.Image.{bytes_at}
 use Rattle.rp_base.specs.Trees.{levels}
 use Rattle.rp_base.specs.declared.faults.Failed.{Failed}
 use Rattle.rp_disk.specs.History.{held}
-use Rattle.rp_disk.specs.Made.{Made, dones, history_told}
+use Rattle.rp_disk.specs.Made.{Past, Made, dones, history_told}
 use Rattle.rp_disk.specs.Runs.{MadeFirst}
 use Rattle.rp_verity.specs.declared.builder.Builder.{Builder}
 use Rattle.rp_verity.specs.Builder.{HasTaken, IsBuilder, blocks_of, pushed_of}
@@ -22,7 +22,7 @@ pub record IsAt (tree : TreePlan) (k : ℕ) (builder : Builder) : Type 0 where
   pub pushed : pushed_of builder ≡ k
 
 -- a data block of a disk
-pub record IsBlockAt (tree : TreePlan) (k : ℕ) (first : Option (List ℕ)) (made : List Made) (block : List ℕ) : Type 0 where
+pub record IsBlockAt (tree : TreePlan) (k : ℕ) (first : Option Past) (made : List Made) (block : List ℕ) : Type 0 where
   pub size : length block ≡ 4096
   pub shown : IfSome (history_told first made) (λ h. tree.data_at + 4096 * (k + 1) ≤ length (held h)
       → block ≡ bytes_at (held h) (tree.data_at + 4096 * k) 4096)
@@ -50,6 +50,6 @@ pub record WritesHashes (tree : TreePlan) (taken : List (List ℕ)) (old new : L
   pub root : IfOk result (λ root. root ≡ root_hash tree.salt taken)
   pub failed : OnErr result (MadeFirst old (hash_calls tree taken) new)
 
-abbrev pub WritesAll : TreePlan → Option (List ℕ) → List Made → List Made → Result (List ℕ) Failed → Type 0
+abbrev pub WritesAll : TreePlan → Option Past → List Made → List Made → Result (List ℕ) Failed → Type 0
 WritesAll tree first old new result =
     (taken : List (List ℕ)) × AreBlocks tree.blocks taken × AreShown tree first old taken × WritesHashes tree taken old new result

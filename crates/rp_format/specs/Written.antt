@@ -6,7 +6,7 @@ use Rattle.rp_base.specs.declared.faults.Failed.{Failed}
 use Rattle.rp_disk.specs.declared.call.Call.{Call}
 use Rattle.rp_disk.specs.declared.call.Call.TheVariants.{Write}
 use Rattle.rp_disk.specs.History.{held}
-use Rattle.rp_disk.specs.Made.{Made, dones, history_told}
+use Rattle.rp_disk.specs.Made.{Past, Made, dones, history_told}
 use Rattle.rp_disk.specs.Runs.{BrokeOff}
 use Rattle.rp_steps.specs.Calls.{tree_writes}
 use Rattle.rp_verity.specs.Filled.{cut}
@@ -40,7 +40,7 @@ pub record AreBlocks (blocks : ℕ) (taken : List (List ℕ)) : Type 0 where
   pub whole : All (λ block. length block ≡ 4096) taken
 
 -- where a disk tells its bytes, and they reach to the end of the data blocks, the data blocks are those that are shown
-abbrev pub AreShown : TreePlan → Option (List ℕ) → List Made → List (List ℕ) → Type 0
+abbrev pub AreShown : TreePlan → Option Past → List Made → List (List ℕ) → Type 0
 AreShown tree first made taken = IfSome (history_told first made) (λ h. data_end tree ≤ length (held h)
     → taken ≡ cut tree.blocks (bytes_at (held h) tree.data_at (4096 * tree.blocks)))
 
@@ -60,6 +60,6 @@ pub record Writes (tree : TreePlan) (taken : List (List ℕ)) (old new : List Ma
   pub failed : OnErr result (BrokeOff old (tree_calls tree taken) new)
 
 -- the tree over the data blocks of a disk was written
-abbrev pub WritesTree : TreePlan → Option (List ℕ) → List Made → List Made → Result (Option (List ℕ)) Failed → Type 0
+abbrev pub WritesTree : TreePlan → Option Past → List Made → List Made → Result (Option (List ℕ)) Failed → Type 0
 WritesTree tree first old new result =
     (taken : List (List ℕ)) × AreBlocks tree.blocks taken × AreShown tree first old taken × Writes tree taken old new result

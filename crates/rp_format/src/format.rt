@@ -1,11 +1,12 @@
 //! Writing a tree block by block.
 
-ghost use Rattle.std.specs.Prelude.{◌≡◌, ◌+◌, ◌*◌, ◌<◌, ◌≤◌, ◌++◌, ℕ, List, IfSome, IfOk, OnOk, OnErr, length, map};
+ghost use Rattle.std.specs.Prelude.{Option, ◌≡◌, ◌+◌, ◌*◌, ◌<◌, ◌≤◌, ◌++◌, ℕ, List, IfSome, IfOk, OnOk, OnErr, length, map};
 ghost use Rattle.rp_base.specs.Faults.{HasCause};
 ghost use Rattle.rp_base.specs.Image.{bytes_at};
 ghost use Rattle.rp_base.specs.Trees.{levels};
+ghost use Rattle.rp_disk.specs.Device.{Earlier, IsPossible, Known, missed_by};
 ghost use Rattle.rp_disk.specs.History.{held};
-ghost use Rattle.rp_disk.specs.Made.{dones, history_told};
+ghost use Rattle.rp_disk.specs.Made.{Past, dones, history_told};
 ghost use Rattle.rp_disk.specs.Runs.{MadeFirst};
 ghost use Rattle.rp_verity.specs.Builder.{HasTaken};
 ghost use Rattle.rp_verity.specs.Filled.{cut};
@@ -28,6 +29,7 @@ const RUN: usize = 4;
 /// Reads the data blocks, writes each hash block behind the superblock's block as it becomes full, and then the
 /// superblock, if the root hash is the planned one; the answer is a root hash that is another. The room has a block of
 /// 4,096 bytes for each level and one more. It takes no memory.
+#[tactic(auto, using(rp_disk::proofs::Noting::earlier_then))]
 pub fn write_tree<D: Disk>(
     disk: &mut D,
     tree: &TreePlan,
@@ -35,12 +37,15 @@ pub fn write_tree<D: Disk>(
 ) -> Result<Option<[u8; 32]>, Failed>
     requires plan { IsTreePlan tree.now }
     requires room { 4096 * (levels tree.now.blocks + 1) ≤ length room.old }
-    ensures first { D.first disk.new ≡ D.first disk.old }
-    ensures written { WritesTree tree.now (D.first disk.old) (D.calls disk.old) (D.calls disk.new) result }
-    ensures range { IfSome (history_told (D.first disk.old) (D.calls disk.old)) (λ h. OnOk result (data_end tree.now ≤ length (held h))) }
-    ensures strays { IfSome (history_told (D.first disk.old) (D.calls disk.old)) (λ h. LieIn tree.now (length (held h))
-        → D.strays disk.new ≡ D.strays disk.old) }
-    ensures cause { HasCause (D.faults disk.old) (D.faults disk.new) result }
+    ensures earlier { Earlier (D.device disk.old) (D.device disk.new) }
+    ensures written { (o : Option Past) → IsPossible o (D.device disk.new)
+        → WritesTree tree.now o (D.device disk.old).calls (D.device disk.new).calls result }
+    ensures range { (o : Option Past) → IsPossible o (D.device disk.new)
+        → IfSome (history_told o (D.device disk.old).calls) (λ h. OnOk result (data_end tree.now ≤ length (held h))) }
+    ensures strays { (o : Option Past) → IsPossible o (D.device disk.new)
+        → IfSome (history_told o (D.device disk.old).calls) (λ h. LieIn tree.now (length (held h))
+        → missed_by o (D.device disk.new).answers ≡ missed_by o (D.device disk.old).answers) }
+    ensures cause { HasCause (D.device disk.old).faults (D.device disk.new).faults result }
 {
     let root = write_hashes(disk, tree, room)?;
     if root != tree.root {
@@ -53,15 +58,19 @@ pub fn write_tree<D: Disk>(
 }
 
 // Reads the data blocks, some at once, and writes the hash blocks. The answer is the root hash.
+#[tactic(auto, using(rp_disk::proofs::Noting::earlier_then))]
 fn write_hashes<D: Disk>(disk: &mut D, tree: &TreePlan, room: &mut [u8]) -> Result<[u8; 32], Failed>
     requires plan { IsTreePlan tree.now }
     requires room { 4096 * (levels tree.now.blocks + 1) ≤ length room.old }
-    ensures first { D.first disk.new ≡ D.first disk.old }
-    ensures written { WritesAll tree.now (D.first disk.old) (D.calls disk.old) (D.calls disk.new) result }
-    ensures range { IfSome (history_told (D.first disk.old) (D.calls disk.old)) (λ h. OnOk result (data_end tree.now ≤ length (held h))) }
-    ensures strays { IfSome (history_told (D.first disk.old) (D.calls disk.old)) (λ h. LieIn tree.now (length (held h))
-        → D.strays disk.new ≡ D.strays disk.old) }
-    ensures cause { HasCause (D.faults disk.old) (D.faults disk.new) result }
+    ensures earlier { Earlier (D.device disk.old) (D.device disk.new) }
+    ensures written { (o : Option Past) → IsPossible o (D.device disk.new)
+        → WritesAll tree.now o (D.device disk.old).calls (D.device disk.new).calls result }
+    ensures range { (o : Option Past) → IsPossible o (D.device disk.new)
+        → IfSome (history_told o (D.device disk.old).calls) (λ h. OnOk result (data_end tree.now ≤ length (held h))) }
+    ensures strays { (o : Option Past) → IsPossible o (D.device disk.new)
+        → IfSome (history_told o (D.device disk.old).calls) (λ h. LieIn tree.now (length (held h))
+        → missed_by o (D.device disk.new).answers ≡ missed_by o (D.device disk.old).answers) }
+    ensures cause { HasCause (D.device disk.old).faults (D.device disk.new).faults result }
 {
     let mut waiting = Waiting::new();
     let mut builder = Builder::new(tree.blocks, &tree.salt, room);
@@ -98,16 +107,17 @@ fn read_run<D: Disk>(
     requires plan { IsTreePlan tree.now }
     requires more { k + length digests.old ≤ tree.now.blocks }
     requires run { length run.old ≡ 4096 * length digests.old }
-    ensures first { D.first disk.new ≡ D.first disk.old }
-    ensures calls { D.calls disk.new ≡ D.calls disk.old }
-    ensures range { IfSome (history_told (D.first disk.old) (D.calls disk.old)) (λ h.
+    ensures earlier { Earlier (D.device disk.old) (D.device disk.new) }
+    ensures calls { (D.device disk.new).calls ≡ (D.device disk.old).calls }
+    ensures range { Known (D.device disk.old) (D.device disk.new) (λ h.
         OnOk result (tree.now.data_at + 4096 * k + length run.old ≤ length (held h))) }
-    ensures bytes { IfSome (history_told (D.first disk.old) (D.calls disk.old)) (λ h.
+    ensures bytes { Known (D.device disk.old) (D.device disk.new) (λ h.
         OnOk result (run.new ≡ bytes_at (held h) (tree.now.data_at + 4096 * k) (length run.old))) }
     ensures digests { OnOk result (digests.new ≡ map (digest_of tree.now.salt) (cut (length digests.old) run.new)) }
-    ensures strays { IfSome (history_told (D.first disk.old) (D.calls disk.old)) (λ h. LieIn tree.now (length (held h))
-        → D.strays disk.new ≡ D.strays disk.old) }
-    ensures cause { HasCause (D.faults disk.old) (D.faults disk.new) result }
+    ensures strays { (o : Option Past) → IsPossible o (D.device disk.new)
+        → IfSome (history_told o (D.device disk.old).calls) (λ h. LieIn tree.now (length (held h))
+        → missed_by o (D.device disk.new).answers ≡ missed_by o (D.device disk.old).answers) }
+    ensures cause { HasCause (D.device disk.old).faults (D.device disk.new).faults result }
 {
     disk.read(tree.data_at + BLOCK as u64 * k, run)?;
     digest_blocks(&tree.salt, run, BLOCK, digests);
@@ -131,12 +141,13 @@ fn take_block<D: Disk>(
     requires waiting { IsEmpty waiting.old }
     ensures builder { OnOk result (IsAt tree.now (k + 1) builder.new) }
     ensures waiting { OnOk result (IsEmpty waiting.new) }
-    ensures first { D.first disk.new ≡ D.first disk.old }
+    ensures earlier { Earlier (D.device disk.old) (D.device disk.new) }
     ensures takes { (block : List ℕ) → digest ≡ digest_of tree.now.salt block
-        → TakesBlock tree.now k builder.old builder.new (D.calls disk.old) (D.calls disk.new) block result }
-    ensures strays { IfSome (history_told (D.first disk.old) (D.calls disk.old)) (λ h. LieIn tree.now (length (held h))
-        → D.strays disk.new ≡ D.strays disk.old) }
-    ensures cause { HasCause (D.faults disk.old) (D.faults disk.new) result }
+        → TakesBlock tree.now k builder.old builder.new (D.device disk.old).calls (D.device disk.new).calls block result }
+    ensures strays { (o : Option Past) → IsPossible o (D.device disk.new)
+        → IfSome (history_told o (D.device disk.old).calls) (λ h. LieIn tree.now (length (held h))
+        → missed_by o (D.device disk.new).answers ≡ missed_by o (D.device disk.old).answers) }
+    ensures cause { HasCause (D.device disk.old).faults (D.device disk.new).faults result }
 {
     builder.push_digest(digest, waiting)?;
     waiting.write_to(disk, tree.hash_at)?;
@@ -155,16 +166,17 @@ fn finish<D: Disk>(
     requires builder { IsAt tree.now tree.now.blocks builder }
     requires taken { (taken : List (List ℕ)) × HasTaken builder tree.now.salt taken }
     requires waiting { IsEmpty waiting.old }
-    ensures first { D.first disk.new ≡ D.first disk.old }
+    ensures earlier { Earlier (D.device disk.old) (D.device disk.new) }
     ensures done { (taken : List (List ℕ)) → HasTaken builder.entry tree.now.salt taken
-        → OnOk result (D.calls disk.new ≡ D.calls disk.old ++ dones (writes_of tree.now.hash_at (left_puts tree.now taken))) }
+        → OnOk result ((D.device disk.new).calls ≡ (D.device disk.old).calls ++ dones (writes_of tree.now.hash_at (left_puts tree.now taken))) }
     ensures root { (taken : List (List ℕ)) → HasTaken builder.entry tree.now.salt taken
         → IfOk result (λ root. root ≡ root_hash tree.now.salt taken) }
     ensures failed { (taken : List (List ℕ)) → HasTaken builder.entry tree.now.salt taken
-        → OnErr result (MadeFirst (D.calls disk.old) (writes_of tree.now.hash_at (left_puts tree.now taken)) (D.calls disk.new)) }
-    ensures strays { IfSome (history_told (D.first disk.old) (D.calls disk.old)) (λ h. LieIn tree.now (length (held h))
-        → D.strays disk.new ≡ D.strays disk.old) }
-    ensures cause { HasCause (D.faults disk.old) (D.faults disk.new) result }
+        → OnErr result (MadeFirst (D.device disk.old).calls (writes_of tree.now.hash_at (left_puts tree.now taken)) (D.device disk.new).calls) }
+    ensures strays { (o : Option Past) → IsPossible o (D.device disk.new)
+        → IfSome (history_told o (D.device disk.old).calls) (λ h. LieIn tree.now (length (held h))
+        → missed_by o (D.device disk.new).answers ≡ missed_by o (D.device disk.old).answers) }
+    ensures cause { HasCause (D.device disk.old).faults (D.device disk.new).faults result }
 {
     let root = builder.finish(waiting)?;
     waiting.write_to(disk, tree.hash_at)?;

@@ -1,9 +1,10 @@
 //! Hash blocks that are full, until they are written.
 
-ghost use Rattle.std.specs.Prelude.{◌≡◌, ◌+◌, ◌*◌, ◌-◌, ◌^◌, ◌≤◌, [], length, Some, IfSome, OnOk};
+ghost use Rattle.std.specs.Prelude.{Option, ◌≡◌, ◌+◌, ◌*◌, ◌-◌, ◌^◌, ◌≤◌, [], length, Some, IfSome, OnOk};
 ghost use Rattle.rp_base.specs.Faults.{HasCause};
+ghost use Rattle.rp_disk.specs.Device.{Earlier, IsPossible, missed_by};
 ghost use Rattle.rp_disk.specs.History.{held};
-ghost use Rattle.rp_disk.specs.Made.{history_told};
+ghost use Rattle.rp_disk.specs.Made.{Past, history_told};
 ghost use Rattle.rp_disk.specs.Runs.{Runs};
 ghost use Rattle.rp_format.specs.Puts.{EndBy, kept_puts, writes_of};
 
@@ -46,12 +47,12 @@ impl Waiting {
     /// Writes each block to its place behind the superblock's block, which begins at a byte.
     pub(crate) fn write_to<D: Disk>(&self, disk: &mut D, hash_at: u64) -> Result<(), Failed>
         requires ends { EndBy hash_at (2 ^ 64 - 1) (puts_of self.now) }
-        ensures first { D.first disk.new ≡ D.first disk.old }
-        ensures ran { Runs (D.calls disk.old) (writes_of hash_at (puts_of self.now)) (D.calls disk.new) result }
-        ensures strays { IfSome (history_told (D.first disk.old) (D.calls disk.old))
+        ensures earlier { Earlier (D.device disk.old) (D.device disk.new) }
+        ensures ran { Runs (D.device disk.old).calls (writes_of hash_at (puts_of self.now)) (D.device disk.new).calls result }
+        ensures strays { (o : Option Past) → IsPossible o (D.device disk.new) → IfSome (history_told o (D.device disk.old).calls)
             (λ h. EndBy hash_at (length (held h)) (puts_of self.now)
-            → D.strays disk.new ≡ D.strays disk.old) }
-        ensures cause { HasCause (D.faults disk.old) (D.faults disk.new) result }
+            → missed_by o (D.device disk.new).answers ≡ missed_by o (D.device disk.old).answers) }
+        ensures cause { HasCause (D.device disk.old).faults (D.device disk.new).faults result }
     {
         for k in 0..self.count {
             let place = hash_at + BLOCK as u64 * (1 + self.places[k]);

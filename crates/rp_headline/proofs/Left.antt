@@ -7,7 +7,7 @@ use Rattle.rp_defs.specs.declared.definition.Definition.{Definition}
 use Rattle.rp_disk.specs.Calls.{all_done}
 use Rattle.rp_disk.specs.History as history
 use Rattle.rp_disk.specs.History.{LeftSince, MayLeave, moment}
-use Rattle.rp_disk.specs.Made.{Made, history_of}
+use Rattle.rp_disk.specs.Made.{Made, Past, history_of}
 use Rattle.rp_disk.specs.Runs.{AtAnyMomentBehindSync, EndsSettled}
 use Rattle.rp_disk.specs.Stops.{Agrees, IsFrontOf, Leaves}
 use Rattle.rp_disk.specs.declared.call.Call.{Call}
@@ -89,7 +89,7 @@ module _ (sector : ℕ) (old : List ℕ) (empty : Empty) (seen : Seen) (target :
   }
 
 -- what a stop leaves of planned calls, of which each image has Safe
-pub left_with : (bytes : List ℕ) (was : List Made) (planned : List Call) (Safe : List Call → List ℕ → Type 0) (made : List Call)
+pub left_with : (bytes : Past) (was : List Made) (planned : List Call) (Safe : List Call → List ℕ → Type 0) (made : List Call)
     (image : List ℕ)
     → MayLeave (history_of bytes was) image ⊎ ((more : List Call) × (made ≡ Sync ∷ more) × IsFrontOf more planned
     × Leaves (history.held (history_of bytes was)) more image)
@@ -104,21 +104,21 @@ left_with bytes was planned Safe made image left safe = elim left [
   ]
 ]
 
-module _ (sector : ℕ) (bytes : List ℕ) (empty : Empty) (seen : Seen) (target : ℕ) (defs : List Definition) (facts : List Fact) (seed : Guid)
+module _ (sector : ℕ) (bytes : Past) (empty : Empty) (seen : Seen) (target : ℕ) (defs : List Definition) (facts : List Fact) (seed : Guid)
     (plan : Plan) (was now : List Made)
     (is : IsPlanned sector (history.held (history_of bytes was)) empty seen target defs facts seed plan) where
   abbrev old : List ℕ
   old = history.held (history_of bytes was)
 
-  pub is_left_any : (body planned : List Call) → AtAnyMomentBehindSync (Some bytes) was planned now → AreCallsOf seen plan body planned
+  pub is_left_any : (body planned : List Call) → AtAnyMomentBehindSync was planned now → AreCallsOf seen plan body planned
       → (made : List Call) (image : List ℕ) → LeftSince (history_of bytes now) (moment (history_of bytes was)) made image
       → IsLeft (history_of bytes was) (StopsIfHonest sector old seen plan body) made image
   is_left_any body planned any are made image since =
-      left_with bytes was planned (StopsIfHonest sector old seen plan body) made image (any made image since)
+      left_with bytes was planned (StopsIfHonest sector old seen plan body) made image (any bytes made image since)
       (behind_sync sector bytes empty seen plan body planned was now any
       (plan_for sector old empty seen target defs facts seed plan is) are made image since)
 
-  pub is_left : (sources : Sources) → AtAnyMomentBehindSync (Some bytes) was (calls plan seen sources) now → NotesFit plan
+  pub is_left : (sources : Sources) → AtAnyMomentBehindSync was (calls plan seen sources) now → NotesFit plan
       → (made : List Call) (image : List ℕ) → LeftSince (history_of bytes now) (moment (history_of bytes was)) made image
       → IsLeft (history_of bytes was) (IsSafeIfHonest sector old seen plan (contents plan sources (grown old plan))) made image
   is_left sources any fit made image since =
@@ -135,10 +135,10 @@ module _ (sector : ℕ) (bytes : List ℕ) (empty : Empty) (seen : Seen) (target
             )
       ]
 
-  pub is_left_whole : (sources : Sources) → AtAnyMomentBehindSync (Some bytes) was (calls plan seen sources) now → NotesFit plan
+  pub is_left_whole : (sources : Sources) → AtAnyMomentBehindSync was (calls plan seen sources) now → NotesFit plan
       → (made : List Call) (image : List ℕ) → LeftSince (history_of bytes now) (moment (history_of bytes was)) made image
       → IsLeft (history_of bytes was) (IsSafeIfWhole sector old seen plan (contents plan sources (grown old plan))) made image
-  is_left_whole sources any fit made image since = elim (any made image since) [
+  is_left_whole sources any fit made image since = elim (any bytes made image since) [
     | inl before ↦ inl before
     | inr behind ↦
         inr (
@@ -156,20 +156,20 @@ module _ (sector : ℕ) (bytes : List ℕ) (empty : Empty) (seen : Seen) (target
   abbrev IsOnlyLeft : (List ℕ → Type 0) → Type 0
   IsOnlyLeft P = (image : List ℕ) → MayLeave (history_of bytes now) image → P image
 
-  only_left : (P : List ℕ → Type 0) (planned : List Call) → EndsSettled (Some bytes) was (Sync ∷ planned) now
+  only_left : (P : List ℕ → Type 0) (planned : List Call) → EndsSettled was (Sync ∷ planned) now
       → P (all_done old planned) → IsOnlyLeft P
   only_left P planned ends holds image left =
-      let none = subst (λ calls. Agrees (history.settled_bytes (history_of bytes now)) calls image) ends.0.calls left in
+      let none = subst (λ calls. Agrees (history.settled_bytes (history_of bytes now)) calls image) (ends bytes).0.calls left in
       let same = agrees-none (history.settled_bytes (history_of bytes now)) image none in
-      subst P (sym (same ∙ ends.0.bytes ∙ ends.1)) holds
+      subst P (sym (same ∙ (ends bytes).0.bytes ∙ (ends bytes).1)) holds
 
-  pub ends_with : (sources : Sources) → EndsSettled (Some bytes) was (Sync ∷ calls plan seen sources) now → NotesFit plan
+  pub ends_with : (sources : Sources) → EndsSettled was (Sync ∷ calls plan seen sources) now → NotesFit plan
       → IsOnlyLeft (IsDoneWith sector old seen defs seed plan (contents plan sources (grown old plan)))
   ends_with sources ends fit =
       only_left (IsDoneWith sector old seen defs seed plan (contents plan sources (grown old plan))) (calls plan seen sources) ends
       (done_with sector old empty seen target defs facts seed plan is sources fit)
 
-  pub ends_any : (body planned : List Call) → EndsSettled (Some bytes) was (Sync ∷ planned) now → AreCallsOf seen plan body planned
+  pub ends_any : (body planned : List Call) → EndsSettled was (Sync ∷ planned) now → AreCallsOf seen plan body planned
       → IsOnlyLeft (HasGoal sector old seen defs seed plan)
   ends_any body planned ends are =
       only_left (HasGoal sector old seen defs seed plan) planned ends
@@ -180,10 +180,10 @@ none_of : (more rest : List Call) → more ++ rest ≡ [] → more ≡ []
 none_of [] rest e = refl
 none_of (call ∷ more) rest e = absurd (cc)
 
-pub is_untouched : (bytes : List ℕ) (was now : List Made) → AtAnyMomentBehindSync (Some bytes) was [] now
+pub is_untouched : (bytes : Past) (was now : List Made) → AtAnyMomentBehindSync was [] now
     → (made : List Call) (image : List ℕ) → LeftSince (history_of bytes now) (moment (history_of bytes was)) made image
     → IsLeft (history_of bytes was) (IsUntouched (history.held (history_of bytes was))) made image
-is_untouched bytes was now any made image since = elim (any made image since) [
+is_untouched bytes was now any made image since = elim (any bytes made image since) [
   | inl before ↦ inl before
   | inr behind ↦
       let none = none_of behind.0 behind.2.0 behind.2.1 in

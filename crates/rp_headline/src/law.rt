@@ -8,7 +8,7 @@ ghost use Rattle.rp_defs.specs.declared.definition.Definition.{Definition};
 ghost use Rattle.rp_disk.specs.Calls.{all_done};
 ghost use Rattle.rp_disk.specs.History as history;
 ghost use Rattle.rp_disk.specs.History.{LeftSince, MayLeave, moment};
-ghost use Rattle.rp_disk.specs.Made.{Made, history_of};
+ghost use Rattle.rp_disk.specs.Made.{Made, Past, history_of};
 ghost use Rattle.rp_disk.specs.Runs.{AtAnyMomentBehindSync, EndsSettled};
 ghost use Rattle.rp_disk.specs.declared.call.Call.{Call};
 ghost use Rattle.rp_gpt.specs.Shown.{accepted};
@@ -107,22 +107,22 @@ pub fn what_a_run_leaves()
 /// torn header passes its checksum by chance, the image shows the old table or the goal with all that. On a disk that writes each
 /// sector whole or not at all there is no such chance.
 pub fn stopped_at_any_moment()
-    ensures honest { (sector : ℕ) (bytes : List ℕ) (empty : Empty) (seen : Seen) (target : ℕ) (defs : List Definition) (facts : List Fact)
+    ensures honest { (sector : ℕ) (bytes : Past) (empty : Empty) (seen : Seen) (target : ℕ) (defs : List Definition) (facts : List Fact)
         (seed : Guid) (plan : Plan) (sources : Sources) (was now : List Made)
-        → AtAnyMomentBehindSync (Some bytes) was (calls_for plan seen sources) now
+        → AtAnyMomentBehindSync was (calls_for plan seen sources) now
         → IsPlanned sector (history.held (history_of bytes was)) empty seen target defs facts seed plan → NotesFit plan
         → (made : List Call) (image : List ℕ) → LeftSince (history_of bytes now) (moment (history_of bytes was)) made image
         → IsLeft (history_of bytes was) (IsSafeIfHonest sector (history.held (history_of bytes was)) seen plan
         (contents_for plan sources (grown (history.held (history_of bytes was)) plan))) made image }
-    ensures whole { (sector : ℕ) (bytes : List ℕ) (empty : Empty) (seen : Seen) (target : ℕ) (defs : List Definition) (facts : List Fact)
+    ensures whole { (sector : ℕ) (bytes : Past) (empty : Empty) (seen : Seen) (target : ℕ) (defs : List Definition) (facts : List Fact)
         (seed : Guid) (plan : Plan) (sources : Sources) (was now : List Made)
-        → AtAnyMomentBehindSync (Some bytes) was (calls_for plan seen sources) now
+        → AtAnyMomentBehindSync was (calls_for plan seen sources) now
         → IsPlanned sector (history.held (history_of bytes was)) empty seen target defs facts seed plan → NotesFit plan
         → (made : List Call) (image : List ℕ) → LeftSince (history_of bytes now) (moment (history_of bytes was)) made image
         → IsLeft (history_of bytes was) (IsSafeIfWhole sector (history.held (history_of bytes was)) seen plan
         (contents_for plan sources (grown (history.held (history_of bytes was)) plan))) made image }
-    ensures any { (sector : ℕ) (bytes : List ℕ) (empty : Empty) (seen : Seen) (target : ℕ) (defs : List Definition) (facts : List Fact)
-        (seed : Guid) (plan : Plan) (body calls : List Call) (was now : List Made) → AtAnyMomentBehindSync (Some bytes) was calls now
+    ensures any { (sector : ℕ) (bytes : Past) (empty : Empty) (seen : Seen) (target : ℕ) (defs : List Definition) (facts : List Fact)
+        (seed : Guid) (plan : Plan) (body calls : List Call) (was now : List Made) → AtAnyMomentBehindSync was calls now
         → IsPlanned sector (history.held (history_of bytes was)) empty seen target defs facts seed plan → AreCallsOf seen plan body calls
         → (made : List Call) (image : List ℕ) → LeftSince (history_of bytes now) (moment (history_of bytes was)) made image
         → IsLeft (history_of bytes was) (StopsIfHonest sector (history.held (history_of bytes was)) seen plan body) made image }
@@ -130,15 +130,15 @@ pub fn stopped_at_any_moment()
 
 /// Once a sync and all calls were made, a stop leaves the image with all of it, and no other.
 pub fn a_stop_at_the_end_leaves_the_same()
-    ensures exact { (sector : ℕ) (bytes : List ℕ) (empty : Empty) (seen : Seen) (target : ℕ) (defs : List Definition) (facts : List Fact)
+    ensures exact { (sector : ℕ) (bytes : Past) (empty : Empty) (seen : Seen) (target : ℕ) (defs : List Definition) (facts : List Fact)
         (seed : Guid) (plan : Plan) (sources : Sources) (was now : List Made)
-        → EndsSettled (Some bytes) was (Call.Sync ∷ calls_for plan seen sources) now
+        → EndsSettled was (Call.Sync ∷ calls_for plan seen sources) now
         → IsPlanned sector (history.held (history_of bytes was)) empty seen target defs facts seed plan → NotesFit plan
         → (image : List ℕ) → MayLeave (history_of bytes now) image
         → IsDoneWith sector (history.held (history_of bytes was)) seen defs seed plan
         (contents_for plan sources (grown (history.held (history_of bytes was)) plan)) image }
-    ensures any { (sector : ℕ) (bytes : List ℕ) (empty : Empty) (seen : Seen) (target : ℕ) (defs : List Definition) (facts : List Fact)
-        (seed : Guid) (plan : Plan) (body calls : List Call) (was now : List Made) → EndsSettled (Some bytes) was (Call.Sync ∷ calls) now
+    ensures any { (sector : ℕ) (bytes : Past) (empty : Empty) (seen : Seen) (target : ℕ) (defs : List Definition) (facts : List Fact)
+        (seed : Guid) (plan : Plan) (body calls : List Call) (was now : List Made) → EndsSettled was (Call.Sync ∷ calls) now
         → IsPlanned sector (history.held (history_of bytes was)) empty seen target defs facts seed plan → AreCallsOf seen plan body calls
         → (image : List ℕ) → MayLeave (history_of bytes now) image
         → HasGoal sector (history.held (history_of bytes was)) seen defs seed plan image }
@@ -147,7 +147,7 @@ pub fn a_stop_at_the_end_leaves_the_same()
 /// Where nothing was planned, and a sync was the only call, the image could have been left at the start already, or it is the one
 /// that was shown then.
 pub fn a_sync_alone_changes_nothing()
-    ensures { (bytes : List ℕ) (was now : List Made) → AtAnyMomentBehindSync (Some bytes) was [] now
+    ensures { (bytes : Past) (was now : List Made) → AtAnyMomentBehindSync was [] now
         → (made : List Call) (image : List ℕ) → LeftSince (history_of bytes now) (moment (history_of bytes was)) made image
         → IsLeft (history_of bytes was) (IsUntouched (history.held (history_of bytes was))) made image }
 {}

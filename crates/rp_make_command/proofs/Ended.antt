@@ -213,7 +213,7 @@ module _ (disk later : Device) (out after : Output) (status : ℕ) where
         as_plan dirs folders read definitions (make_request seed) reads mid seen sources asked (Err refusal) same at plans refuses
     by_plan mid seen sources asked drained (Ok planned) same plans (inl (at, none, refuses)) =
         as_plan dirs folders read definitions (make_request seed) reads mid seen sources asked (Ok planned) same at plans (inr refuses)
-    by_plan mid seen sources asked drained (Ok planned) same plans (inr (calls, made, left, answer, carries, stays, behind)) =
+    by_plan mid seen sources asked drained (Ok planned) same plans (inr (made, left, answer, carries, stays, behind)) =
         by_commit planned seen made asked left drained answer
         (kept_plan dirs folders read definitions (make_request seed) reads mid seen sources asked planned plans ∙ same)
         carries.refusal carries.cause.of_disk behind

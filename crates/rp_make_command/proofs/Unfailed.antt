@@ -133,7 +133,7 @@ module _ (number : ℕ) (disk later : Device) (out after : Output) (status : ℕ
         let quiet : asked.strays ≡ 0 → asked.faults ≡ 0 = subst FailsAstray same astray in
         as_plan (make_request seed) reads mid seen (made_store files) asked (Err refusal) (quiet none) plans refuses
     by_plan mid seen asked drained (Ok planned) astray plans (inl (at, same, refuses)) = refused_by memory_refusal 10 refuses refl (λ f. omega (arith, f))
-    by_plan mid seen asked drained (Ok planned) astray plans (inr (calls, made, left, answer, carries, stays, behind)) =
+    by_plan mid seen asked drained (Ok planned) astray plans (inr (made, left, answer, carries, stays, behind)) =
         let none = stays_asked (make_request seed) definitions.list files each (source_bytes number) there mid seen (made_store files) asked refl
         (Ok planned) plans in
         let told : asked.told ≡ Some files = told_same (make_request seed) definitions.list mid seen (made_store files) asked planned plans in

@@ -8,7 +8,6 @@ use Rattle.rp_base.specs.declared.guid.Guid.{Guid}
 use Rattle.rp_check_command.specs.Checks.{Finds, check_request}
 use Rattle.rp_defs.specs.declared.definition.Definitions.{Definitions}
 use Rattle.rp_difference.specs.declared.difference.Difference.{Difference}
-use Rattle.rp_disk.specs.declared.call.Call.{Call}
 use Rattle.rp_gpt.specs.declared.table_fault.Empty.TheVariants.{Require}
 use Rattle.rp_io.specs.Files.{Tree}
 use Rattle.rp_io.specs.declared.stored.Stored.{Stored}
@@ -104,8 +103,8 @@ SourcesStay definitions planned before now = IfSome before.told (λ files.
 abbrev pub MakesCarried : ℕ → Guid → Definitions → Planned → Device → Device → Store (List Stored) → Store (List Stored) → Output
     → Output → ℕ → Type 0
 MakesCarried number seed definitions planned disk later sources drained out after status =
-    (calls : List Call) × (made : Device) × (left : Store (List Stored)) × (answer : Outcome)
-    × CarriesOut definitions planned disk made sources left calls answer × SourcesStay definitions planned sources left
+    (made : Device) × (left : Store (List Stored)) × (answer : Outcome)
+    × CarriesOut definitions planned disk made sources left answer × SourcesStay definitions planned sources left
     × MakesCheckedBehind number seed definitions planned made later left drained out after status answer
 
 -- what is planned is carried out, unless there was no memory for it

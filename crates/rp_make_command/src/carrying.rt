@@ -1,11 +1,8 @@
-ghost use Rattle.std.specs.Prelude.{List};
 ghost use Rattle.rp_apply.specs.Ready.{IsReady, IsReadyFor};
 ghost use Rattle.rp_apply_command.specs.Applies.{CarriesOut};
 ghost use Rattle.rp_apply_command.specs.Carrying.{HasSeenLength, HasToldRoots};
 ghost use Rattle.rp_defs.specs.declared.definition.Definitions.{Definitions};
-ghost use Rattle.rp_disk.specs.declared.call.Call.{Call};
 ghost use Rattle.rp_make_command.specs.Makes.{SourcesStay, outcome_of, refusal_of};
-ghost use Rattle.rp_outcome.specs.Device.{device};
 ghost use Rattle.rp_outcome.specs.Output.{Refuses, output};
 ghost use Rattle.rp_outcome.specs.Store.{store};
 ghost use Rattle.rp_planned.specs.declared.planned.Planned.{Planned};
@@ -23,12 +20,12 @@ pub(crate) fn carry_out<D: Disk, S: Sources>(
 ) -> Result<(), ApplyFault>
     requires { IsReady ready }
     ensures { (definitions : Definitions) (planned : Planned) → IsReadyFor planned.plan planned.seen definitions.list ready
-        → HasSeenLength planned (device D.first D.calls D.faults D.strays disk.old)
+        → HasSeenLength planned (D.device disk.old)
         → HasToldRoots definitions.list planned
-        (device D.first D.calls D.faults D.strays disk.old) (store S.told S.faults S.strays sources.old)
-        → (calls : List Call) × CarriesOut definitions planned
-        (device D.first D.calls D.faults D.strays disk.old) (device D.first D.calls D.faults D.strays disk.new)
-        (store S.told S.faults S.strays sources.old) (store S.told S.faults S.strays sources.new) calls (outcome_of result)
+        (D.device disk.old) (store S.told S.faults S.strays sources.old)
+        → CarriesOut definitions planned
+        (D.device disk.old) (D.device disk.new)
+        (store S.told S.faults S.strays sources.old) (store S.told S.faults S.strays sources.new) (outcome_of result)
         × SourcesStay definitions planned (store S.told S.faults S.strays sources.old) (store S.told S.faults S.strays sources.new) }
 {
     match commit(ready, disk, sources) {

@@ -5,7 +5,6 @@ ghost use Rattle.rp_defs.specs.WellFormed.{IsWellFormed};
 ghost use Rattle.rp_gpt.specs.Accepted.{IsSeen};
 ghost use Rattle.rp_make_command.specs.Makes.{MakesChecked, MakesCompared, unfound_refusal};
 ghost use Rattle.rp_make_command.specs.Summary.{TellsMade};
-ghost use Rattle.rp_outcome.specs.Device.{device};
 ghost use Rattle.rp_outcome.specs.Output.{output};
 ghost use Rattle.rp_outcome.specs.Store.{store};
 ghost use Rattle.rp_reading.specs.Stages.{refused};
@@ -42,7 +41,7 @@ pub(crate) fn check_made<D: Disk, S: Sources, K: Sink>(
 ) -> u8
     requires list { IsWellFormed definitions.now.list }
     ensures { MakesChecked seed front.now definitions.now
-        (device D.first D.calls D.faults D.strays disk.old) (device D.first D.calls D.faults D.strays disk.new)
+        (D.device disk.old) (D.device disk.new)
         (store S.told S.faults S.strays sources.old) (store S.told S.faults S.strays sources.new)
         (output K.told K.faults out.old) (output K.told K.faults out.new) result }
 {
@@ -75,9 +74,9 @@ fn compare_made<D: Disk, K: Sink>(
     out: &mut K,
 ) -> u8
     requires seen { IsSeen planned.now.seen.shown.sector planned.now.seen }
-    requires len { HasSeenLength planned.now (device D.first D.calls D.faults D.strays disk.old) }
+    requires len { HasSeenLength planned.now (D.device disk.old) }
     ensures { MakesCompared front.now planned.now
-        (device D.first D.calls D.faults D.strays disk.old) (device D.first D.calls D.faults D.strays disk.new)
+        (D.device disk.old) (D.device disk.new)
         (output K.told K.faults out.old) (output K.told K.faults out.new) result }
 {
     match find(alloc, planned, disk) {
@@ -94,9 +93,9 @@ fn find<D: Disk>(
     disk: &mut D,
 ) -> Result<Option<Difference>, Unfound>
     requires seen { IsSeen planned.now.seen.shown.sector planned.now.seen }
-    requires len { HasSeenLength planned.now (device D.first D.calls D.faults D.strays disk.old) }
+    requires len { HasSeenLength planned.now (D.device disk.old) }
     ensures { Finds X86_64 planned.now
-        (device D.first D.calls D.faults D.strays disk.old) (device D.first D.calls D.faults D.strays disk.new)
+        (D.device disk.old) (D.device disk.new)
         (refused unfound_refusal result) }
 {
     let Ok(mut room) = vec![in alloc; 0; ROOM] else {

@@ -1,6 +1,5 @@
 ghost use Rattle.rp_defs.specs.WellFormed.{IsWellFormed};
 ghost use Rattle.rp_make_command.specs.Makes.{Makes, MakesLooked, MakesOpened, MakesRead};
-ghost use Rattle.rp_outcome.specs.Device.{device};
 ghost use Rattle.rp_outcome.specs.Output.{output};
 ghost use Rattle.rp_outcome.specs.Store.{store};
 
@@ -23,7 +22,7 @@ use std::alloc::Global;
 /// refused before it is grown. All memory for carrying out is taken before the first write.
 pub fn make<D: Disk, K: Sink>(alloc: Global, number: u8, disk: &mut D, out: &mut K) -> u8
     ensures { Makes number
-        (device D.first D.calls D.faults D.strays disk.old) (device D.first D.calls D.faults D.strays disk.new)
+        (D.device disk.old) (D.device disk.new)
         (output K.told K.faults out.old) (output K.told K.faults out.new) result }
 {
     let Ok(input) = input_of(alloc, number) else {
@@ -61,7 +60,7 @@ fn make_read<D: Disk, S: Sources, K: Sink>(
 ) -> u8
     requires list { IsWellFormed definitions.now.list }
     ensures { MakesRead number seed definitions.now
-        (device D.first D.calls D.faults D.strays disk.old) (device D.first D.calls D.faults D.strays disk.new)
+        (D.device disk.old) (D.device disk.new)
         (store S.told S.faults S.strays sources.old) (store S.told S.faults S.strays sources.new)
         (output K.told K.faults out.old) (output K.told K.faults out.new) result }
 {
@@ -83,7 +82,7 @@ fn make_opened<D: Disk, S: Sources, K: Sink>(
 ) -> u8
     requires list { IsWellFormed definitions.now.list }
     ensures { MakesOpened number seed definitions.now
-        (device D.first D.calls D.faults D.strays disk.old) (device D.first D.calls D.faults D.strays disk.new)
+        (D.device disk.old) (D.device disk.new)
         (store S.told S.faults S.strays sources.old) (store S.told S.faults S.strays sources.new)
         (output K.told K.faults out.old) (output K.told K.faults out.new) result }
 {
@@ -106,7 +105,7 @@ fn make_looked<D: Disk, S: Sources, K: Sink>(
 ) -> u8
     requires list { IsWellFormed definitions.now.list }
     ensures { MakesLooked number seed definitions.now len
-        (device D.first D.calls D.faults D.strays disk.old) (device D.first D.calls D.faults D.strays disk.new)
+        (D.device disk.old) (D.device disk.new)
         (store S.told S.faults S.strays sources.old) (store S.told S.faults S.strays sources.new)
         (output K.told K.faults out.old) (output K.told K.faults out.new) result }
 {

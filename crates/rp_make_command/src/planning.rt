@@ -5,7 +5,6 @@ ghost use Rattle.rp_apply_command.specs.Carrying.{CanPrepare, HasSeenLength, Has
 ghost use Rattle.rp_defs.specs.WellFormed.{IsWellFormed};
 ghost use Rattle.rp_make_command.specs.Makes.{MakesCarried, MakesGrown, MakesPlanned, make_request as make_request_of};
 ghost use Rattle.rp_make_command.specs.Summary.{front_text};
-ghost use Rattle.rp_outcome.specs.Device.{device};
 ghost use Rattle.rp_outcome.specs.Output.{output};
 ghost use Rattle.rp_outcome.specs.Store.{store};
 
@@ -35,7 +34,7 @@ pub(crate) fn make_grown<D: Disk, S: Sources, K: Sink>(
 ) -> u8
     requires list { IsWellFormed definitions.now.list }
     ensures { MakesGrown number seed definitions.now
-        (device D.first D.calls D.faults D.strays disk.old) (device D.first D.calls D.faults D.strays disk.new)
+        (D.device disk.old) (D.device disk.new)
         (store S.told S.faults S.strays sources.old) (store S.told S.faults S.strays sources.new)
         (output K.told K.faults out.old) (output K.told K.faults out.new) result }
 {
@@ -81,12 +80,12 @@ fn make_planned<D: Disk, S: Sources, K: Sink>(
 ) -> u8
     requires list { IsWellFormed definitions.now.list }
     requires can { CanPrepare definitions.now.list planned.now }
-    requires len { HasSeenLength planned.now (device D.first D.calls D.faults D.strays disk.old) }
+    requires len { HasSeenLength planned.now (D.device disk.old) }
     requires roots { HasToldRoots definitions.now.list planned.now
-        (device D.first D.calls D.faults D.strays disk.old) (store S.told S.faults S.strays sources.old) }
+        (D.device disk.old) (store S.told S.faults S.strays sources.old) }
     ensures fits { PlanFits planned.now }
     ensures makes { MakesPlanned number seed definitions.now planned.now
-        (device D.first D.calls D.faults D.strays disk.old) (device D.first D.calls D.faults D.strays disk.new)
+        (D.device disk.old) (D.device disk.new)
         (store S.told S.faults S.strays sources.old) (store S.told S.faults S.strays sources.new)
         (output K.told K.faults out.old) (output K.told K.faults out.new) result }
 {

@@ -11,10 +11,11 @@ use Rattle.rp_defs.specs.WellFormed.{IsWellFormed}
 use Rattle.rp_defs.specs.declared.definition.Definitions.{Definitions}
 use Rattle.rp_difference.specs.Difference.{difference}
 use Rattle.rp_difference.specs.declared.difference.Difference.{Difference}
+use Rattle.rp_disk.specs.Device.{CanHave}
 use Rattle.rp_disk.specs.History.{held}
-use Rattle.rp_disk.specs.Made.{Made, dones, history_of, history_told}
-use Rattle.rp_disk.specs.declared.call.Call.{Call}
+use Rattle.rp_disk.specs.Made.{Made, Past, dones, history_of}
 use Rattle.rp_disk.specs.declared.call.Call.TheVariants.{Sync}
+use Rattle.rp_disk.proofs.Noting.{can_before, earlier_same}
 use Rattle.rp_disk.proofs.Runs.{more}
 use Rattle.rp_io.specs.Files.{Tree}
 use Rattle.rp_io.specs.declared.stored.Stored.{Stored}
@@ -41,6 +42,7 @@ use Rattle.rp_make_promise.proofs.Complete.{IsNone, by_room, has_reason, none_pl
 use Rattle.rp_make_promise.proofs.Leaving.{final_end}
 use Rattle.rp_make_promise.proofs.Planned.{is_planned}
 use Rattle.rp_make_promise.proofs.Reached.{image, planned_so, room_told, told}
+use Rattle.rp_make_promise.proofs.Since.{since_grown, since_made}
 use Rattle.rp_make_promise.proofs.Unchanged.{planned_again, untold}
 use Rattle.rp_make_promise.proofs.Went.{Went}
 use Rattle.rp_unchanged.specs.Defined.{AreSteady}
@@ -75,17 +77,17 @@ as_room number status old (Err refusal) want = inr want
 abbrev silent : Output
 silent = record { taken = None; faults = 0 }
 
-module _ (number : ℕ) (disk later : Device) (out after : Output) (status : ℕ) (bytes : List ℕ) (tells : disk.first ≡ Some bytes)
+module _ (number : ℕ) (disk later : Device) (out after : Output) (status : ℕ) (past : Past) (can : CanHave past later)
     (high : number ≤ 100) where
   abbrev old : List ℕ
-  old = held (history_of bytes disk.calls)
+  old = held (history_of past disk.calls)
 
   abbrev files : List Stored
   files = source_files number
 
   -- the answer, which is no difference, or an object failed
   abbrev End : Type 0
-  End = (AnswersImage number status (held (history_of bytes disk.calls)) × (status ≡ 1 → ⊥))
+  End = (AnswersImage number status (held (history_of past disk.calls)) × (status ≡ 1 → ⊥))
       ⊎ (status ≡ 7) ⊎ (status ≡ 8) ⊎ (status ≡ 9)
 
   no_difference : (refusal : Refusal) → Refuses out after refusal status → IsNone refusal.status → status ≡ 1 → ⊥
@@ -128,12 +130,11 @@ module _ (number : ℕ) (disk later : Device) (out after : Output) (status : ℕ
     steady = subst (λ (d : Definitions). AreSteady X86_64 d.list) same has.steady
 
     module _ (opened looked grown : Device) (len : ℕ) (drained : Store (List Stored)) (opens : Opens disk opened (Ok tt))
-        (looks : Looks room_in opened looked (Ok len)) (grows : Grows {T = Unit {0}} {E = Failed} len looked grown (Ok tt)) where
+        (looks : Looks room_in opened looked (Ok len)) (grows : Grows {T = Unit {0}} {E = Failed} len looked grown (Ok tt))
+        (since : CanHave past grown) where
       room : room_in old ≡ Ok len
-      room = room_told number disk later out after status bytes tells definitions are formed opened opens looked len looks
-
-      first : grown.first ≡ Some bytes
-      first = grows.first ∙ looks.only_read.first ∙ opens.first ∙ tells
+      room = room_told number disk later out after status past can definitions are formed opened opens looked len looks
+          (can_before grows.earlier since)
 
       behind : grown.calls ≡ disk.calls ++ dones (Sync ∷ growth_calls len)
       behind = more disk.calls looked.calls grown.calls (Sync ∷ []) (growth_calls len) (looks.only_read.calls ∙ opens.ran.ok) grows.ran.ok
@@ -143,11 +144,11 @@ module _ (number : ℕ) (disk later : Device) (out after : Output) (status : ℕ
 
       -- it is refused as is told
       refused_so : (refusal : Refusal) → Refuses out after refusal status → IsNone refusal.status
-          → planned_of (make_request (seed_of number)) definitions.list (held (history_of bytes grown.calls)) files ≡ Err refusal → End
+          → planned_of (make_request (seed_of number)) definitions.list (held (history_of past grown.calls)) files ≡ Err refusal → End
       refused_so refusal refuses fault is =
           let there : planned_of (make_request (seed_of number)) definitions.list (grown_image old) files ≡ Err refusal =
           subst (λ (i : List ℕ). planned_of (make_request (seed_of number)) definitions.list i (source_files number) ≡ Err refusal)
-          (image number disk later out after status bytes tells definitions are formed len room looks.short grown first behind drained) is in
+          (image number disk later out after status past can definitions are formed len room looks.short grown behind drained) is in
           let none : planned_for number (grown_image old) ≡ Err refusal =
           ap (λ (d : Result Definitions Refusal). and_then d (λ definitions.
           and_then (planned_of (make_request (seed_of number)) definitions.list (grown_image old) (source_files number))
@@ -157,11 +158,11 @@ module _ (number : ℕ) (disk later : Device) (out after : Output) (status : ℕ
 
       module _ (seen : Device) (asked : Store (List Stored)) (planned : Planned)
           (plans : PlansImage (make_request (seed_of number)) definitions.list grown seen (made_store (source_files number)) asked (Ok planned))
-          (fits : PlanFits planned) (made : Device) (left : Store (List Stored)) (calls : List Call) where
-        module _ (carries : CarriesOut definitions planned seen made asked left calls (Ok tt)) where
+          (fits : PlanFits planned) (made : Device) (left : Store (List Stored)) where
+        module _ (carries : CarriesOut definitions planned seen made asked left (Ok tt)) (now : CanHave past made) where
           goal : planned_for number (grown_image old) ≡ Ok (definitions, planned)
-          goal = planned_so number disk later out after status bytes tells definitions are formed len room looks.short grown first behind
-              drained seen made asked left planned calls (Ok tt) plans fits carries
+          goal = planned_so number disk later out after status past can definitions are formed len room looks.short grown behind
+              drained seen made asked left planned (Ok tt) plans fits carries now
 
           done : status ≡ 0 → End
           done is = by_plan_of (λ one. omega (arith, is, one)) (subst (AnswersPlanned status) (sym goal) (inl is))
@@ -181,35 +182,32 @@ module _ (number : ℕ) (disk later : Device) (out after : Output) (status : ℕ
             planned = planned;
             asked = asked;
             left = left;
-            calls = calls;
             opens = opens;
             looks = looks;
             grows = grows;
             plans = plans;
             fits = fits;
             carries = carries;
+            since = earlier_same made;
             same = refl;
             printed = record { taken = tt; kept = refl };
           }
 
           -- the image that was made differs in nothing from what is planned for it again
-          same_image : IsUnchanged 512 (held (history_of bytes made.calls)) X86_64 planned.seen planned.plan definitions.list (seed_of number)
+          same_image : IsUnchanged 512 (held (history_of past made.calls)) X86_64 planned.seen planned.plan definitions.list (seed_of number)
           unfolding so_far
           same_image =
               (made_unchanged 512 (grown_image old) planned.seen (target_of 0 planned.seen) definitions.list (source_files number)
-              (seed_of number) planned.plan (held (history_of bytes made.calls)) X86_64
+              (seed_of number) planned.plan (held (history_of past made.calls)) X86_64
               (is_planned number definitions.list (grown_image old) planned formed each pair high
-              (told number disk later out after status bytes tells definitions are formed len room looks.short grown first behind drained
-              seen made asked left planned calls (Ok tt) plans fits carries) fits.table)
-              fits.notes steady (final_end number disk made silent silent 0 bytes tells so_far)).1
+              (told number disk later out after status past can definitions are formed len room looks.short grown behind drained
+              seen made asked left planned (Ok tt) plans fits carries now) fits.table)
+              fits.notes steady (final_end number disk made silent silent 0 past now so_far)).1
 
           again : (again : Planned)
-              × (planned_of (check_request (seed_of number) X86_64 512) definitions.list (held (history_of bytes made.calls)) files ≡ Ok again)
-              × (difference (held (history_of bytes made.calls)) X86_64 again.seen again.plan ≡ None)
-          again = planned_again (seed_of number) definitions.list (held (history_of bytes made.calls)) files planned.seen planned.plan same_image
-
-          made_first : made.first ≡ Some bytes
-          made_first = carries.first ∙ plans.1.only_read.first ∙ first
+              × (planned_of (check_request (seed_of number) X86_64 512) definitions.list (held (history_of past made.calls)) files ≡ Ok again)
+              × (difference (held (history_of past made.calls)) X86_64 again.seen again.plan ≡ None)
+          again = planned_again (seed_of number) definitions.list (held (history_of past made.calls)) files planned.seen planned.plan same_image
 
           left_told : left.told ≡ Some files
           left_told = carries.told
@@ -217,41 +215,32 @@ module _ (number : ℕ) (disk later : Device) (out after : Output) (status : ℕ
 
           -- there is a plan for the image that was made
           none_refused : (refusal : Refusal)
-              → planned_of (check_request (seed_of number) X86_64 512) definitions.list (held (history_of bytes made.calls)) files ≡ Err refusal → ⊥
+              → planned_of (check_request (seed_of number) X86_64 512) definitions.list (held (history_of past made.calls)) files ≡ Err refusal → ⊥
           none_refused refusal is =
               let clash : ◌≡◌ {A = Result Planned Refusal} (Ok again.0) (Err refusal) = sym again.1 ∙ is in absurd (cc)
 
           module _ (mid : Device) (second : Planned)
-              (plans_again : PlansImage (check_request (seed_of number) X86_64 512) definitions.list made mid left drained (Ok second)) where
-            second_told : planned_of (check_request (seed_of number) X86_64 512) definitions.list (held (history_of bytes made.calls)) files
+              (plans_again : PlansImage (check_request (seed_of number) X86_64 512) definitions.list made mid left drained (Ok second))
+              (can_mid : CanHave past mid) where
+            second_told : planned_of (check_request (seed_of number) X86_64 512) definitions.list (held (history_of past made.calls)) files
                 ≡ Ok second
             second_told =
-                let on_disk : IfSome left.told (λ files. planned_of (check_request (seed_of number) X86_64 512) definitions.list
-                (held (history_of bytes made.calls)) files ≡ Ok second) =
-                subst (λ (o : Option (List ℕ)). IfSome (history_told o made.calls) (λ h. IfSome left.told (λ files.
-                planned_of (check_request (seed_of number) X86_64 512) definitions.list (held h) files ≡ Ok second))) made_first
-                (is_told (check_request (seed_of number) X86_64 512) definitions.list made mid left drained second plans_again) in
                 subst (λ (o : Option (List Stored)). IfSome o (λ files. planned_of (check_request (seed_of number) X86_64 512)
-                definitions.list (held (history_of bytes made.calls)) files ≡ Ok second)) left_told on_disk
+                definitions.list (held (history_of past made.calls)) files ≡ Ok second)) left_told
+                (is_told (check_request (seed_of number) X86_64 512) definitions.list made mid left drained second plans_again past can_mid)
 
-            none_differs : difference (held (history_of bytes made.calls)) X86_64 second.seen second.plan ≡ None
+            none_differs : difference (held (history_of past made.calls)) X86_64 second.seen second.plan ≡ None
             none_differs =
-                subst (λ (p : Planned). difference (held (history_of bytes made.calls)) X86_64 p.seen p.plan ≡ None)
+                subst (λ (p : Planned). difference (held (history_of past made.calls)) X86_64 p.seen p.plan ≡ None)
                 (same_planned again.0 second (sym again.1 ∙ second_told)) again.2
 
             settles : (answer : Result (Option Difference) Refusal) → Finds X86_64 second mid later answer
                 → Settles disk_refusal (Ok None) answer
             settles answer finds =
-                let only = plans_again.1.only_read in
-                let on_disk : IfSome (history_told made.first made.calls) (λ h. Settles disk_refusal
-                (Ok (difference (held h) X86_64 second.seen second.plan)) answer) =
-                subst (λ (o : Option (List ℕ)). IfSome (history_told o made.calls) (λ h. Settles disk_refusal
-                (Ok (difference (held h) X86_64 second.seen second.plan)) answer)) only.first
-                (subst (λ (l : List Made). IfSome (history_told mid.first l) (λ h. Settles disk_refusal
-                (Ok (difference (held h) X86_64 second.seen second.plan)) answer)) only.calls finds.settled) in
-                let there : Settles disk_refusal (Ok (difference (held (history_of bytes made.calls)) X86_64 second.seen second.plan)) answer =
-                subst (λ (o : Option (List ℕ)). IfSome (history_told o made.calls) (λ h. Settles disk_refusal
-                (Ok (difference (held h) X86_64 second.seen second.plan)) answer)) made_first on_disk in
+                let there : Settles disk_refusal (Ok (difference (held (history_of past made.calls)) X86_64 second.seen second.plan)) answer =
+                subst (λ (l : List Made). Settles disk_refusal
+                (Ok (difference (held (history_of past l)) X86_64 second.seen second.plan)) answer) plans_again.1.only_read.calls
+                (finds.settled past can) in
                 subst (λ (found : Option Difference). Settles disk_refusal (Ok found) answer) none_differs there
 
             found : (answer : Result (Option Difference) Refusal) → Finds X86_64 second mid later answer
@@ -267,26 +256,29 @@ module _ (number : ℕ) (disk later : Device) (out after : Output) (status : ℕ
               → PlansImage (check_request (seed_of number) X86_64 512) definitions.list made mid left drained answer
               → MakesComparedBehind (front_text number planned) mid later out after status answer → End
           checked mid (Ok second) plans_again (answer, finds, tells_it) =
-              found mid second plans_again answer finds (front_text number planned) tells_it
+              found mid second plans_again (can_before finds.only_read.earlier can) answer finds (front_text number planned) tells_it
           checked mid (Err refusal) plans_again (at, refuses) =
-              elim (untold (check_request (seed_of number) X86_64 512) definitions.list made mid left drained refusal bytes files made_first
-              left_told plans_again) [
+              elim (untold (check_request (seed_of number) X86_64 512) definitions.list made mid left drained refusal past files
+              (subst (CanHave past) at can) left_told plans_again) [
                 | inl is ↦ absurd (none_refused refusal is)
                 | inr (inl e) ↦ by_disk refusal refuses e
                 | inr (inr (inl e)) ↦ by_source refusal refuses e
                 | inr (inr (inr e)) ↦ by_memory refusal refuses e
               ]
 
-        carried : (answer : Outcome) → CarriesOut definitions planned seen made asked left calls answer
+        carried : (answer : Outcome) → CarriesOut definitions planned seen made asked left answer
             → MakesCheckedBehind number (seed_of number) definitions planned made later left drained out after status answer → End
-        carried (Ok tt) carries (mid, answer, plans_again, compared) = checked carries mid answer plans_again compared
+        carried (Ok tt) carries (mid, answer, plans_again, compared) =
+            checked carries
+            (can_before (since_made number (seed_of number) definitions later out after status planned made left drained (Ok tt)
+            (mid, answer, plans_again, compared)) can) mid answer plans_again compared
         carried (Err refusal) carries (at, none, refuses) =
             elim carries.refusal [
               | inl e ↦ by_disk refusal refuses e
               | inr (inl e) ↦ by_source refusal refuses e
               | inr (inr changed) ↦
-                  absurd (unchanged number disk later out after status bytes tells definitions grown first drained seen made asked left planned
-                  calls refusal plans carries (ap (λ (r : Refusal). r.status) changed.2))
+                  absurd (unchanged number disk later out after status past can definitions grown drained seen made asked left planned
+                  refusal plans carries (subst (CanHave past) at can) (ap (λ (r : Refusal). r.status) changed.2))
             ]
 
       by_plan : (seen : Device) (asked : Store (List Stored)) (answer : Result Planned Refusal)
@@ -294,7 +286,8 @@ module _ (number : ℕ) (disk later : Device) (out after : Output) (status : ℕ
           → IfOk answer PlanFits
           → MakesPlannedBehind number (seed_of number) definitions seen later asked drained out after status answer → End
       by_plan seen asked (Err refusal) plans fits (at, none, refuses) =
-          elim (untold (make_request (seed_of number)) definitions.list grown seen (made_store files) asked refusal bytes files first refl plans) [
+          elim (untold (make_request (seed_of number)) definitions.list grown seen (made_store files) asked refusal past files
+          (subst (CanHave past) at can) refl plans) [
             | inl is ↦
                 refused_so refusal refuses
                 (none_planned (make_request (seed_of number)) definitions.list grown seen (made_store files) asked refusal plans) is
@@ -303,8 +296,8 @@ module _ (number : ℕ) (disk later : Device) (out after : Output) (status : ℕ
             | inr (inr (inr e)) ↦ by_memory refusal refuses e
           ]
       by_plan seen asked (Ok planned) plans fits (inl (at, none, refuses)) = by_memory memory_refusal refuses refl
-      by_plan seen asked (Ok planned) plans fits (inr (calls, made, left, answer, carries, stays, checked)) =
-          carried seen asked planned plans fits made left calls answer carries checked
+      by_plan seen asked (Ok planned) plans fits (inr (made, left, answer, carries, stays, checked)) =
+          carried seen asked planned plans fits made left answer carries checked
 
     by_growth : (opened looked grown : Device) (len : ℕ) (drained : Store (List Stored)) (answer : Result (Unit {0}) Failed)
         → Opens disk opened (Ok tt) → Looks room_in opened looked (Ok len) → Grows len looked grown answer
@@ -312,7 +305,9 @@ module _ (number : ℕ) (disk later : Device) (out after : Output) (status : ℕ
         → End
     by_growth opened looked grown len drained (Err e) opens looks grows (at, none, refuses) = by_disk disk_refusal refuses refl
     by_growth opened looked grown len drained (Ok tt) opens looks grows (seen, asked, answer, plans, fits, behind) =
-        by_plan opened looked grown len drained opens looks grows seen asked answer plans fits behind
+        by_plan opened looked grown len drained opens looks grows
+        (can_before (since_grown number (seed_of number) definitions later out after status grown (made_store files) drained (Ok tt)
+        (seen, asked, answer, plans, fits, behind)) can) seen asked answer plans fits behind
 
     by_look : (opened looked : Device) (drained : Store (List Stored)) (answer : Result ℕ Refusal) → Opens disk opened (Ok tt)
         → Looks room_in opened looked answer
@@ -323,16 +318,14 @@ module _ (number : ℕ) (disk later : Device) (out after : Output) (status : ℕ
     by_look opened looked drained (Err refusal) opens looks (at, none, refuses) = by_settled settles where
       settles : Settles disk_refusal (room_in old) (Err refusal)
       settles =
-          let on_disk : Settles disk_refusal (room_in (held (history_of bytes opened.calls))) (Err refusal) =
-          subst (λ (o : Option (List ℕ)). IfSome (history_told o opened.calls) (λ h. Settles disk_refusal (room_in (held h)) (Err refusal)))
-          (opens.first ∙ tells) looks.settled in
           subst (λ (i : List ℕ). Settles disk_refusal (room_in i) (Err refusal))
-          (ap (λ (l : List Made). held (history_of bytes l)) opens.ran.ok ∙ same_shown bytes disk.calls) on_disk
+          (ap (λ (l : List Made). held (history_of past l)) opens.ran.ok ∙ same_shown past disk.calls)
+          (looks.settled past (subst (CanHave past) at can))
 
       by_settled : Settles disk_refusal (room_in old) (Err refusal) → End
       by_settled (inl is) = inl (
         subst (AnswersRoom number status old) is (inl refuses.answers),
-        no_difference refusal refuses (by_room number disk later out after status bytes tells refusal looks.refusal),
+        no_difference refusal refuses (by_room number disk later out after status past can refusal looks.refusal),
       )
       by_settled (inr (inl e)) = by_disk refusal refuses (same_err {T = ℕ} refusal disk_refusal e)
       by_settled (inr (inr e)) = by_memory refusal refuses (same_err {T = ℕ} refusal memory_refusal e)
@@ -363,11 +356,11 @@ module _ (number : ℕ) (disk later : Device) (out after : Output) (status : ℕ
 
 -- where no call failed
 pub answers_so : (number : ℕ) (disk later : Device) (out after : Output) (status : ℕ) → number ≤ 100 → Makes number disk later out after status
-    → (bytes : List ℕ) → disk.first ≡ Some bytes → ¬ Rose disk.faults later.faults → ¬ Rose out.faults after.faults
-    → AnswersImage number status (held (history_of bytes disk.calls))
-answers_so number disk later out after status high makes bytes tells disk_kept sink_kept =
+    → (past : Past) → CanHave past later → ¬ Rose disk.faults later.faults → ¬ Rose out.faults after.faults
+    → AnswersImage number status (held (history_of past disk.calls))
+answers_so number disk later out after status high makes past can disk_kept sink_kept =
     let ends = ends_so disk later out after status number makes in
-    elim (ended number disk later out after status bytes tells high makes) [
+    elim (ended number disk later out after status past can high makes) [
       | inl answers ↦ answers.0
       | inr (inl e) ↦ absurd (disk_kept (ends.causes.disk_failed e))
       | inr (inr (inl e)) ↦ absurd (never_files number disk later out after status high makes e)
@@ -376,10 +369,10 @@ answers_so number disk later out after status high makes bytes tells disk_kept s
 
 -- why it ends so
 pub reason_so : (number : ℕ) (disk later : Device) (out after : Output) (status : ℕ) → number ≤ 100 → Makes number disk later out after status
-    → (bytes : List ℕ) → disk.first ≡ Some bytes → HasReason disk later out after status
-reason_so number disk later out after status high makes bytes tells =
-    has_reason number disk later out after status bytes tells high makes
-    (elim (ended number disk later out after status bytes tells high makes) [
+    → (past : Past) → CanHave past later → HasReason disk later out after status
+reason_so number disk later out after status high makes past can =
+    has_reason number disk later out after status past can high makes
+    (elim (ended number disk later out after status past can high makes) [
       | inl answers ↦ answers.1
       | inr (inl e) ↦ λ one. omega (arith, e, one)
       | inr (inr (inl e)) ↦ λ one. omega (arith, e, one)

@@ -1,9 +1,9 @@
--- No run of `make` on a disk that tells its bytes ends with a status but these.
+-- No run of `make` on a disk that can have a past ends with a status but these.
 use Rattle.std.proofs.Common.{ℕ, ◌≡◌, ◌⊎◌, ◌≤◌, ◌∙◌, Bool, true, false, List, Option, Some, None, Result, Ok, Err, refl, sym, ap, subst, inl, inr}
 use Rattle.std.specs.Prelude.{IfSome}
 use Rattle.rp_apply_command.specs.Applies.{CarriesOut, IsCommitRefusal, Opens, Outcome}
 use Rattle.rp_apply_command.specs.Ends.{Given}
-use Rattle.rp_apply_command.proofs.Goals.{only_read, told_same}
+use Rattle.rp_apply_command.proofs.Goals.{told_same}
 use Rattle.rp_base.specs.declared.faults.Failed.{Failed}
 use Rattle.rp_base.specs.declared.plan.Plan.{Plan}
 use Rattle.rp_base.specs.declared.seen.Seen.{Seen}
@@ -13,8 +13,8 @@ use Rattle.rp_defs.specs.declared.definition.Definitions.{Definitions}
 use Rattle.rp_demand.specs.declared.demand.Demand.{Demand}
 use Rattle.rp_demand.specs.declared.demand.Demand.TheVariants as demands
 use Rattle.rp_difference.specs.declared.difference.Difference.{Difference}
-use Rattle.rp_disk.specs.Made.{history_told}
-use Rattle.rp_disk.specs.declared.call.Call.{Call}
+use Rattle.rp_disk.specs.Device.{CanHave}
+use Rattle.rp_disk.specs.Made.{Past}
 use Rattle.rp_io.specs.Files.{Tree}
 use Rattle.rp_io.specs.declared.stored.Stored.{Stored}
 use Rattle.rp_make_command.specs.Ends.{MakeEnds}
@@ -106,7 +106,7 @@ module _ (request : Request) (list : List Definition) (disk later : Device) (sou
   pub none_planned : PlansImage request list disk later sources drained (Err refusal) → IsNone refusal.status
   none_planned plans = none_seen plans.0 plans.1 plans.2
 
-module _ (number : ℕ) (disk later : Device) (out after : Output) (status : ℕ) (bytes : List ℕ) (tells : disk.first ≡ Some bytes) where
+module _ (number : ℕ) (disk later : Device) (out after : Output) (status : ℕ) (past : Past) (can : CanHave past later) where
   -- a status that may come
   abbrev One : Type 0
   One = (status ≡ 0) ⊎ (status ≡ 1) ⊎ (status ≡ 9) ⊎ IsNone status
@@ -140,33 +140,30 @@ module _ (number : ℕ) (disk later : Device) (out after : Output) (status : ℕ
       (none_planned (check_request (seed_of number) X86_64 512) definitions.list mid seen left drained refusal plans) refuses
   checked definitions front mid seen left drained (Ok planned) plans (answer, finds, tells) = compared front planned seen answer finds tells
 
-  module _ (definitions : Definitions) (grown : Device) (first : grown.first ≡ Some bytes) (drained : Store (List Stored)) where
+  module _ (definitions : Definitions) (grown : Device) (drained : Store (List Stored)) where
     -- no source has changed
-    pub unchanged : (seen made : Device) (asked left : Store (List Stored)) (planned : Planned) (calls : List Call) (refusal : Refusal)
+    pub unchanged : (seen made : Device) (asked left : Store (List Stored)) (planned : Planned) (refusal : Refusal)
         → PlansImage (make_request (seed_of number)) definitions.list grown seen (made_store (source_files number)) asked (Ok planned)
-        → CarriesOut definitions planned seen made asked left calls (Err refusal) → refusal.status ≡ exit.changed → ⊥
-    unchanged seen made asked left planned calls refusal plans carries =
-        let only = only_read (make_request (seed_of number)) definitions.list grown seen (made_store files) asked (Ok planned) plans in
+        → CarriesOut definitions planned seen made asked left (Err refusal) → CanHave past made → refusal.status ≡ exit.changed → ⊥
+    unchanged seen made asked left planned refusal plans carries now =
+        let runs = carries.runs (Some past) now in
         let P : List Stored → Type 0 = λ stored.
-        (calls ≡ calls_for planned.plan planned.seen (Given definitions.list stored))
-        × (refusal.status ≡ exit.changed → ⊥) in
-        let on_disk : IfSome asked.told P = subst (λ (o : Option (List ℕ)). IfSome (history_told o seen.calls) (λ h. IfSome asked.told P))
-        (only.0 ∙ first) carries.exact in
+        (runs.0 ≡ calls_for planned.plan planned.seen (Given definitions.list stored)) × (refusal.status ≡ exit.changed → ⊥) in
         (subst (λ (o : Option (List Stored)). IfSome o P)
-        (told_same (make_request (seed_of number)) definitions.list grown seen (made_store files) asked planned plans) on_disk).1
+        (told_same (make_request (seed_of number)) definitions.list grown seen (made_store files) asked planned plans) runs.1.exact).1
 
-    carried : (seen made : Device) (asked left : Store (List Stored)) (planned : Planned) (calls : List Call) (answer : Outcome)
+    carried : (seen made : Device) (asked left : Store (List Stored)) (planned : Planned) (answer : Outcome)
         → PlansImage (make_request (seed_of number)) definitions.list grown seen (made_store (source_files number)) asked (Ok planned)
-        → CarriesOut definitions planned seen made asked left calls answer
+        → CarriesOut definitions planned seen made asked left answer
         → MakesCheckedBehind number (seed_of number) definitions planned made later left drained out after status answer → One
-    carried seen made asked left planned calls (Ok done) plans carries (mid, answer, again, behind) =
+    carried seen made asked left planned (Ok done) plans carries (mid, answer, again, behind) =
         checked definitions (front_text number planned) made mid left drained answer again behind
-    carried seen made asked left planned calls (Err refusal) plans carries (at, same, refuses) = by carries.refusal where
+    carried seen made asked left planned (Err refusal) plans carries (at, same, refuses) = by carries.refusal where
       by : IsCommitRefusal planned refusal → One
       by (inl failed) = refused_so refusal (none_disk refusal failed) refuses
       by (inr (inl failed)) = refused_so refusal (none_source refusal failed) refuses
       by (inr (inr changed)) =
-          absurd (unchanged seen made asked left planned calls refusal plans carries (ap (λ (r : Refusal). r.status) changed.2))
+          absurd (unchanged seen made asked left planned refusal plans carries (subst (CanHave past) at can) (ap (λ (r : Refusal). r.status) changed.2))
 
     by_plan : (seen : Device) (asked : Store (List Stored)) (answer : Result Planned Refusal)
         → PlansImage (make_request (seed_of number)) definitions.list grown seen (made_store (source_files number)) asked answer
@@ -175,37 +172,37 @@ module _ (number : ℕ) (disk later : Device) (out after : Output) (status : ℕ
         refused_so refusal
         (none_planned (make_request (seed_of number)) definitions.list grown seen (made_store files) asked refusal plans) refuses
     by_plan seen asked (Ok planned) plans (inl (at, same, refuses)) = refused_so memory_refusal (none_memory memory_refusal refl) refuses
-    by_plan seen asked (Ok planned) plans (inr (calls, made, left, answer, carries, stays, behind)) =
-        carried seen made asked left planned calls answer plans carries behind
+    by_plan seen asked (Ok planned) plans (inr (made, left, answer, carries, stays, behind)) =
+        carried seen made asked left planned answer plans carries behind
 
   by_growth : (definitions : Definitions) (looked grown : Device) (len : ℕ) (drained : Store (List Stored)) (answer : Result (Unit {0}) Failed)
-      → looked.first ≡ Some bytes → Grows len looked grown answer
+      → Grows len looked grown answer
       → MakesGrownBehind number (seed_of number) definitions grown later (made_store (source_files number)) drained out after status answer
       → One
-  by_growth definitions looked grown len drained (Err e) first grows (at, same, refuses) =
+  by_growth definitions looked grown len drained (Err e) grows (at, same, refuses) =
       refused_so disk_refusal (none_disk disk_refusal refl) refuses
-  by_growth definitions looked grown len drained (Ok done) first grows (seen, asked, answer, plans, fits, behind) =
-      by_plan definitions grown (grows.first ∙ first) drained seen asked answer plans behind
+  by_growth definitions looked grown len drained (Ok done) grows (seen, asked, answer, plans, fits, behind) =
+      by_plan definitions grown drained seen asked answer plans behind
 
   pub by_room : (refusal : Refusal) → IsRoomRefusal refusal → IsNone refusal.status
   by_room refusal (inl four) = inl four
   by_room refusal (inr two) = either refusal two
 
   by_look : (definitions : Definitions) (opened looked : Device) (drained : Store (List Stored)) (answer : Result ℕ Refusal)
-      → opened.first ≡ Some bytes → Looks room_in opened looked answer
+      → Looks room_in opened looked answer
       → MakesLookedBehind number (seed_of number) definitions looked later (made_store (source_files number)) drained out after status answer
       → One
-  by_look definitions opened looked drained (Err refusal) first looks (at, same, refuses) =
+  by_look definitions opened looked drained (Err refusal) looks (at, same, refuses) =
       refused_so refusal (by_room refusal looks.refusal) refuses
-  by_look definitions opened looked drained (Ok len) first looks (grown, answer, grows, behind) =
-      by_growth definitions looked grown len drained answer (looks.only_read.first ∙ first) grows behind
+  by_look definitions opened looked drained (Ok len) looks (grown, answer, grows, behind) =
+      by_growth definitions looked grown len drained answer grows behind
 
   by_opening : (definitions : Definitions) (opened : Device) (drained : Store (List Stored)) (answer : Outcome) → Opens disk opened answer
       → MakesOpenedBehind number (seed_of number) definitions opened later (made_store (source_files number)) drained out after status answer
       → One
   by_opening definitions opened drained (Err refusal) opens (at, same, refuses) = refused_so refusal (none_disk refusal opens.refusal) refuses
   by_opening definitions opened drained (Ok done) opens (looked, answer, looks, behind) =
-      by_look definitions opened looked drained answer (opens.first ∙ tells) looks behind
+      by_look definitions opened looked drained answer looks behind
 
   module _ (high : number ≤ 100) where
     -- the definitions are there

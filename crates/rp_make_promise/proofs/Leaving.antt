@@ -1,20 +1,21 @@
 -- What a run of `make` leaves, by how far it came.
 use Rattle.std.proofs.Common.{ℕ, ◌≡◌, ◌⊎◌, ◌∙◌, ◌++◌, Bool, true, false, cond, List, [], ◌∷◌, Option, Some, Result, Ok, length, refl, sym, ap, subst, inl, inr, append_assoc, arith}
-use Rattle.std.specs.Prelude.{IfSome, nat_lt}
-use Rattle.rp_apply_command.specs.Ends.{AtEachMoment, AtTheEnd, Given}
-use Rattle.rp_apply_command.proofs.Goals.{only_read}
+use Rattle.std.specs.Prelude.{nat_lt}
+use Rattle.rp_apply_command.specs.Ends.{AtEachMoment, AtTheEnd, CarriesAll, Given}
 use Rattle.rp_apply_command.proofs.Moments.{carries_all}
-use Rattle.rp_apply_command.proofs.Runs.{all_behind, ends_with_sync, same_shown}
+use Rattle.rp_apply_command.proofs.Runs.{same_shown}
 use Rattle.rp_defs.specs.declared.definition.Definition.{Definition}
 use Rattle.rp_defs.specs.declared.definition.Definitions.{Definitions}
+use Rattle.rp_disk.specs.Device.{CanHave}
 use Rattle.rp_disk.specs.History.{IsSettled, MayLeave, held, pending_calls}
-use Rattle.rp_disk.specs.Made.{Made, dones, history_of}
+use Rattle.rp_disk.specs.Made.{Made, Past, dones, history_of}
 use Rattle.rp_disk.specs.Runs.{MadeFirst}
 use Rattle.rp_disk.specs.Stops.{Agrees, IsFrontOf, Leaves}
 use Rattle.rp_disk.specs.declared.call.Call.{Call}
 use Rattle.rp_disk.specs.declared.call.Call.TheVariants.{SetLen, Sync}
 use Rattle.rp_disk.proofs.Agreeing.{agrees-same}
-use Rattle.rp_disk.proofs.Runs.{ends_settled, any_moment_behind_sync, dones-append, more}
+use Rattle.rp_disk.proofs.Noting.{can_before}
+use Rattle.rp_disk.proofs.Runs.{any_moment_behind_sync, dones-append, more}
 use Rattle.rp_gpt.specs.declared.table_fault.Empty.TheVariants.{Require}
 use Rattle.rp_headline.specs.Left.{IsDoneWith}
 use Rattle.rp_headline.proofs.Public.{are_calls_of, rows_filled}
@@ -139,31 +140,31 @@ module _ (number : ℕ) (old : List ℕ) (before now : List Made) (c : Carried n
         })
 
 -- what a stop at any moment might have left
-left_in : (number : ℕ) (bytes : List ℕ) (disk later : Device)
-    → Reached number (held (history_of bytes disk.calls)) disk.calls later.calls
-    → AtEachMoment bytes disk later (IsLeftInMaking number (held (history_of bytes disk.calls)))
-left_in number bytes disk later (inl reached) = λ made image since.
-    elim (any_moment_behind_sync (Some bytes) disk.calls later.calls [] reached made image since) [
+left_in : (number : ℕ) (past : Past) (disk later : Device)
+    → Reached number (held (history_of past disk.calls)) disk.calls later.calls
+    → AtEachMoment past disk later (IsLeftInMaking number (held (history_of past disk.calls)))
+left_in number past disk later (inl reached) = λ made image since.
+    elim (any_moment_behind_sync disk.calls later.calls [] reached past made image since) [
       | inl before ↦ inl before
-      | inr (rest, is, front, left) ↦ inr (rest, is, left, inl (front_of_none rest (growth_calls (length (held (history_of bytes disk.calls)))) front, left))
+      | inr (rest, is, front, left) ↦ inr (rest, is, left, inl (front_of_none rest (growth_calls (length (held (history_of past disk.calls)))) front, left))
     ]
-left_in number bytes disk later (inr (inl (len, room, reached))) = λ made image since.
-    elim (any_moment_behind_sync (Some bytes) disk.calls later.calls (growth_calls len) reached made image since) [
+left_in number past disk later (inr (inl (len, room, reached))) = λ made image since.
+    elim (any_moment_behind_sync disk.calls later.calls (growth_calls len) reached past made image since) [
       | inl before ↦ inl before
       | inr (rest, is, front, left) ↦
           inr (
             rest,
             is,
             left,
-            inl (subst (λ (n : ℕ). IsFrontOf rest (growth_calls n)) (room_length (held (history_of bytes disk.calls)) len room) front, left),
+            inl (subst (λ (n : ℕ). IsFrontOf rest (growth_calls n)) (room_length (held (history_of past disk.calls)) len room) front, left),
           )
     ]
-left_in number bytes disk later (inr (inr c)) = λ made image since.
-    elim (any_moment_behind_sync (Some bytes) disk.calls later.calls
-    (growth_calls c.len ++ calls_for c.planned.plan c.planned.seen (Given c.definitions.list (source_files number))) c.made made image since) [
+left_in number past disk later (inr (inr c)) = λ made image since.
+    elim (any_moment_behind_sync disk.calls later.calls
+    (growth_calls c.len ++ calls_for c.planned.plan c.planned.seen (Given c.definitions.list (source_files number))) c.made past made image since) [
       | inl before ↦ inl before
       | inr (rest, is, front, left) ↦
-          inr (rest, is, left, left_so number (held (history_of bytes disk.calls)) disk.calls later.calls c rest image front left)
+          inr (rest, is, left, left_so number (held (history_of past disk.calls)) disk.calls later.calls c rest image front left)
     ]
 
 -- a growth and its sync
@@ -174,37 +175,39 @@ one_sync : (b : Bool) → Sync ∷ cond b (SetLen length_made ∷ Sync ∷ []) [
 one_sync true = refl
 one_sync false = refl
 
-module _ (number : ℕ) (disk later : Device) (out after : Output) (status : ℕ) (bytes : List ℕ) (tells : disk.first ≡ Some bytes)
+module _ (number : ℕ) (disk later : Device) (out after : Output) (status : ℕ) (past : Past) (can : CanHave past later)
     (w : Went number disk later out after) where
   abbrev old : List ℕ
-  old = held (history_of bytes disk.calls)
+  old = held (history_of past disk.calls)
 
   abbrev files : List Stored
   files = source_files number
 
+  -- the past is one that the disk could have once the plan was carried out, and at each stage before
+  now : CanHave past w.made
+  now = can_before w.since can
+
   room : room_in old ≡ Ok w.len
-  room = room_told number disk later out after status bytes tells w.definitions w.are w.formed w.opened w.opens w.looked w.len w.looks
+  room = room_told number disk later out after status past can w.definitions w.are w.formed w.opened w.opens w.looked w.len w.looks
+      (can_before w.grows.earlier (can_before w.plans.1.only_read.earlier (can_before w.carries.earlier now)))
 
   behind : w.grown.calls ≡ disk.calls ++ dones (Sync ∷ growth_calls w.len)
   behind = more disk.calls w.looked.calls w.grown.calls (Sync ∷ []) (growth_calls w.len) (w.looks.only_read.calls ∙ w.opens.ran.ok) w.grows.ran.ok
 
-  first : w.grown.first ≡ disk.first
-  first = w.grows.first ∙ w.looks.only_read.first ∙ w.opens.first
-
   goal : planned_for number (grown_image old) ≡ Ok (w.definitions, w.planned)
-  goal = planned_so number disk later out after status bytes tells w.definitions w.are w.formed w.len room w.looks.short w.grown
-      (first ∙ tells) behind w.left w.seen w.made w.asked w.left w.planned w.calls (Ok tt) w.plans w.fits w.carries
+  goal = planned_so number disk later out after status past can w.definitions w.are w.formed w.len room w.looks.short w.grown behind w.left
+      w.seen w.made w.asked w.left w.planned (Ok tt) w.plans w.fits w.carries now
 
-  calls_are : w.calls ≡ calls_for w.planned.plan w.planned.seen (Given w.definitions.list files)
-  calls_are = exact number disk later out after status bytes tells w.definitions w.are w.formed w.len room w.looks.short w.grown
-      (first ∙ tells) behind w.left w.seen w.made w.asked w.left w.planned w.calls (Ok tt) w.plans w.fits w.carries
+  abbrev calls : List Call
+  calls = (w.carries.runs (Some past) now).0
 
-  only : (w.seen.first ≡ w.grown.first) × (w.seen.calls ≡ w.grown.calls)
-  only = only_read (make_request (seed_of number)) w.definitions.list w.grown w.seen (made_store files) w.asked (Ok w.planned) w.plans
+  calls_are : calls ≡ calls_for w.planned.plan w.planned.seen (Given w.definitions.list files)
+  calls_are = exact number disk later out after status past can w.definitions w.are w.formed w.len room w.looks.short w.grown behind w.left
+      w.seen w.made w.asked w.left w.planned (Ok tt) w.plans w.fits w.carries now
 
   -- the disk before the last sync of the growth
   abbrev mid : Device
-  mid = record { first = disk.first; calls = disk.calls ++ dones (growth_before (nat_lt w.len length_made)); faults = 0; strays = 0 }
+  mid = record { calls = disk.calls ++ dones (growth_before (nat_lt w.len length_made)); answers = []; faults = 0 }
 
   synced : w.grown.calls ≡ mid.calls ++ dones (Sync ∷ [])
   synced =
@@ -212,51 +215,48 @@ module _ (number : ℕ) (disk later : Device) (out after : Output) (status : ℕ
       ∙ ap (λ (l : List Made). disk.calls ++ l) (dones-append (growth_before (nat_lt w.len length_made)) (Sync ∷ []))
       ∙ sym (append_assoc disk.calls (dones (growth_before (nat_lt w.len length_made))) (dones (Sync ∷ [])))
 
-  shown : held (history_of bytes mid.calls) ≡ grown_image old
+  shown : held (history_of past mid.calls) ≡ grown_image old
   shown =
-      sym (same_shown bytes mid.calls) ∙ ap (λ (l : List Made). held (history_of bytes l)) (sym synced)
-      ∙ held_grown bytes disk.calls w.grown.calls w.len behind (room_length old w.len room) w.looks.short
+      sym (same_shown past mid.calls) ∙ ap (λ (l : List Made). held (history_of past l)) (sym synced)
+      ∙ held_grown past disk.calls w.grown.calls w.len behind (room_length old w.len room) w.looks.short
 
   abbrev Done : List ℕ → List ℕ → Type 0
   Done grown image = IsDoneWith 512 grown w.planned.seen w.definitions.list (seed_of number) w.planned.plan
       (contents_for number grown w.definitions w.planned) image
 
-  ends : AtTheEnd bytes later (Done (grown_image old))
+  whole : (made : List Call) × CarriesAll (make_request (seed_of number)) w.definitions.list mid w.made (made_store (source_files number))
+      w.planned (Some past) made
+  whole = carries_all (make_request (seed_of number)) w.definitions mid w.grown w.seen w.made (made_store files) w.asked w.left w.planned
+      (inl refl) refl (omega arith) w.formed w.fits synced w.plans w.carries (Some past) now
+
+  ends : AtTheEnd past later (Done (grown_image old))
   ends =
-      let all = carries_all (make_request (seed_of number)) w.definitions mid w.grown w.seen w.made (made_store files) w.asked w.left w.planned
-      w.calls (Ok tt) (inl refl) refl (omega arith) w.formed w.fits first synced w.plans w.carries w.carries.ran.ok in
-      let on_disk : AtTheEnd bytes w.made (Done (held (history_of bytes mid.calls))) =
-      subst (λ (o : Option (List ℕ)). IfSome o (λ bytes. AtTheEnd bytes w.made (Done (held (history_of bytes mid.calls))))) tells all.ends_exactly in
-      subst (λ (l : List Made). (image : List ℕ) → MayLeave (history_of bytes l) image → Done (grown_image old) image) (sym w.same)
-      (subst (λ (grown : List ℕ). AtTheEnd bytes w.made (Done grown)) shown on_disk)
+      subst (λ (l : List Made). (image : List ℕ) → MayLeave (history_of past l) image → Done (grown_image old) image) (sym w.same)
+      (subst (λ (grown : List ℕ). AtTheEnd past w.made (Done grown)) shown whole.1.ends_exactly)
 
   -- nothing is pending, and the image is the final one
-  settled : IsSettled (history_of bytes w.made.calls)
-  settled =
-      let split = ends_with_sync _ in
-      let same : Sync ∷ w.calls ≡ split.0 ++ Sync ∷ [] = ap (λ (l : List Call). Sync ∷ l) w.carries.are.are ∙ split.1 in
-      (ends_settled (Some bytes) mid.calls w.made.calls split.0
-      (all_behind mid.calls w.seen.calls w.made.calls w.calls (only.1 ∙ synced) w.carries.ran.ok
-      ∙ ap (λ (l : List Call). mid.calls ++ dones l) same)).0
+  settled : IsSettled (history_of past w.made.calls)
+  settled = whole.1.settled
 
-  shown_left : MayLeave (history_of bytes w.made.calls) (held (history_of bytes w.made.calls))
+  shown_left : MayLeave (history_of past w.made.calls) (held (history_of past w.made.calls))
   shown_left =
-      let h = history_of bytes w.made.calls in
+      let h = history_of past w.made.calls in
       subst (λ (image : List ℕ). Agrees image (pending_calls h) (held h)) (sym settled.bytes) (agrees-same (held h) (pending_calls h))
 
   pub final_end : IsFinal (grown_image old) w.planned.seen w.planned.plan (contents_for number (grown_image old) w.definitions w.planned)
-      (held (history_of bytes later.calls))
+      (held (history_of past later.calls))
   final_end =
-      (ends (held (history_of bytes later.calls))
-      (subst (λ (l : List Made). MayLeave (history_of bytes l) (held (history_of bytes l))) (sym w.same) shown_left)).final
+      (ends (held (history_of past later.calls))
+      (subst (λ (l : List Made). MayLeave (history_of past l) (held (history_of past l))) (sym w.same) shown_left)).final
 
-  pub leaves_goal : LeavesGoal number disk later bytes
+  pub leaves_goal : LeavesGoal number disk later past
   leaves_goal = record {
     definitions = w.definitions;
     planned = w.planned;
     goal = goal;
     all =
-        more disk.calls w.seen.calls later.calls (Sync ∷ growth_calls w.len) w.calls (only.1 ∙ behind) (w.same ∙ w.carries.ran.ok)
+        more disk.calls w.seen.calls later.calls (Sync ∷ growth_calls w.len) calls (w.plans.1.only_read.calls ∙ behind)
+        (w.same ∙ (w.carries.runs (Some past) now).1.ran.ok)
         ∙ ap (λ (l : List Call). disk.calls ++ dones ((Sync ∷ growth_calls w.len) ++ l)) calls_are
         ∙ ap (λ (l : List Call). disk.calls ++ dones l) (sym (calls_carried number old w.len w.definitions w.planned room goal));
     ends = ends;
@@ -264,18 +264,18 @@ module _ (number : ℕ) (disk later : Device) (out after : Output) (status : ℕ
 
 -- at every status
 pub makes_first : (number : ℕ) (disk later : Device) (out after : Output) (status : ℕ) → Makes number disk later out after status
-    → (bytes : List ℕ) → disk.first ≡ Some bytes → MadeFirst disk.calls (make_calls number (held (history_of bytes disk.calls))) later.calls
-makes_first number disk later out after status makes bytes tells =
-    called_so number (held (history_of bytes disk.calls)) disk.calls later.calls (reached number disk later out after status bytes tells makes)
+    → (past : Past) → CanHave past later → MadeFirst disk.calls (make_calls number (held (history_of past disk.calls))) later.calls
+makes_first number disk later out after status makes past can =
+    called_so number (held (history_of past disk.calls)) disk.calls later.calls (reached number disk later out after status past can makes)
 
 pub leaves_in : (number : ℕ) (disk later : Device) (out after : Output) (status : ℕ) → Makes number disk later out after status
-    → (bytes : List ℕ) → disk.first ≡ Some bytes
-    → AtEachMoment bytes disk later (IsLeftInMaking number (held (history_of bytes disk.calls)))
-leaves_in number disk later out after status makes bytes tells =
-    left_in number bytes disk later (reached number disk later out after status bytes tells makes)
+    → (past : Past) → CanHave past later
+    → AtEachMoment past disk later (IsLeftInMaking number (held (history_of past disk.calls)))
+leaves_in number disk later out after status makes past can =
+    left_in number past disk later (reached number disk later out after status past can makes)
 
 -- where it is done
 pub leaves_so : (number : ℕ) (disk later : Device) (out after : Output) (status : ℕ) → Makes number disk later out after status
-    → (bytes : List ℕ) → disk.first ≡ Some bytes → status ≡ 0 → LeavesGoal number disk later bytes
-leaves_so number disk later out after status makes bytes tells done =
-    leaves_goal number disk later out after status bytes tells (went number disk later out after status done makes)
+    → (past : Past) → CanHave past later → status ≡ 0 → LeavesGoal number disk later past
+leaves_so number disk later out after status makes past can done =
+    leaves_goal number disk later out after status past can (went number disk later out after status done makes)

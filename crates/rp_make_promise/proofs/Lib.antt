@@ -7,6 +7,7 @@ pub mod Promised
 pub mod Reached
 pub mod Room
 pub mod Rows
+pub mod Since
 pub mod Summed
 pub mod Unchanged
 pub mod Went

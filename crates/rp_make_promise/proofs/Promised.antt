@@ -1,6 +1,7 @@
 -- What is promised of a run of `make`, as one record.
-use Rattle.std.proofs.Common.{ℕ, ◌≡◌, ◌≤◌, List, Option, Some, None, refl}
-use Rattle.std.specs.Prelude.{IfSome}
+use Rattle.std.proofs.Common.{ℕ, ◌≤◌}
+use Rattle.rp_disk.specs.Device.{CanHave}
+use Rattle.rp_disk.specs.Made.{Past}
 use Rattle.rp_make_command.specs.Makes.{Makes}
 use Rattle.rp_make_command.proofs.Unfailed.{never_files}
 use Rattle.rp_outcome.specs.Device.{Device}
@@ -12,22 +13,18 @@ use Rattle.rp_make_promise.proofs.Summed.{tells_so}
 
 module _ (number : ℕ) (disk later : Device) (out after : Output) (status : ℕ) (high : number ≤ 100)
     (makes : Makes number disk later out after status) where
-  well_at : (bytes : List ℕ) → disk.first ≡ Some bytes → MakesWell number disk later out after status bytes
-  well_at bytes tells = record {
-    reason = reason_so number disk later out after status high makes bytes tells;
-    answers = answers_so number disk later out after status high makes bytes tells;
-    calls = makes_first number disk later out after status makes bytes tells;
-    moments = leaves_in number disk later out after status makes bytes tells;
-    told = tells_so number disk later out after status high makes bytes tells;
-    leaves = leaves_so number disk later out after status makes bytes tells;
+  well_at : (past : Past) → CanHave past later → MakesWell number disk later out after status past
+  well_at past can = record {
+    reason = reason_so number disk later out after status high makes past can;
+    answers = answers_so number disk later out after status high makes past can;
+    calls = makes_first number disk later out after status makes past can;
+    moments = leaves_in number disk later out after status makes past can;
+    told = tells_so number disk later out after status high makes past can;
+    leaves = leaves_so number disk later out after status makes past can;
   }
-
-  well_by : (o : Option (List ℕ)) → disk.first ≡ o → IfSome o (MakesWell number disk later out after status)
-  well_by None tells = tt
-  well_by (Some bytes) tells = well_at bytes tells
 
   pub promise_so : MakePromise number disk later out after status
   promise_so = record {
     files = never_files number disk later out after status high makes;
-    well = well_by disk.first refl;
+    well = well_at;
   }

@@ -1,19 +1,21 @@
--- How far a run of `make` came on a disk that tells its bytes.
+-- How far a run of `make` came on a disk that can have a past.
 use Rattle.std.proofs.Common.{ℕ, ◌≡◌, ◌⊎◌, ◌≤◌, ◌∙◌, ◌++◌, List, [], ◌∷◌, Option, Some, Result, Ok, Err, refl, sym, ap, subst, inl, inr, arith}
 use Rattle.std.specs.Prelude.{IfErr, IfOk, IfSome}
 use Rattle.rp_apply_command.specs.Applies.{CarriesOut, Opens, Outcome, PlanFits}
 use Rattle.rp_apply_command.specs.Ends.{Given, IsGoalOf}
-use Rattle.rp_apply_command.proofs.Goals.{is_goal, is_told, only_read, settled_ok, told_same}
+use Rattle.rp_apply_command.proofs.Goals.{is_goal, is_told, settled_ok, told_same}
 use Rattle.rp_apply_command.proofs.Runs.{made_none, made_sync, same_shown}
 use Rattle.rp_base.specs.declared.faults.Failed.{Failed}
 use Rattle.rp_check_command.specs.Checks.{check_request}
 use Rattle.rp_defs.specs.WellFormed.{IsWellFormed}
 use Rattle.rp_defs.specs.declared.definition.Definitions.{Definitions}
+use Rattle.rp_disk.specs.Device.{CanHave}
 use Rattle.rp_disk.specs.History.{held}
-use Rattle.rp_disk.specs.Made.{Made, dones, history_of, history_told}
+use Rattle.rp_disk.specs.Made.{Made, Past, dones, history_of}
 use Rattle.rp_disk.specs.Runs.{MadeFirst}
 use Rattle.rp_disk.specs.declared.call.Call.{Call}
 use Rattle.rp_disk.specs.declared.call.Call.TheVariants.{Sync}
+use Rattle.rp_disk.proofs.Noting.{can_before}
 use Rattle.rp_disk.proofs.Runs.{made_first, more}
 use Rattle.rp_io.specs.Files.{Tree}
 use Rattle.rp_io.specs.declared.stored.Stored.{Stored}
@@ -34,6 +36,7 @@ use Rattle.rp_steps.specs.Calls.{calls as calls_for}
 use Rattle.rp_types.specs.declared.arch.Arch.TheVariants.{X86_64}
 use Rattle.rp_make_promise.specs.Leaves.{grown_image, planned_for}
 use Rattle.rp_make_promise.proofs.Room.{behind_all, held_grown, made_whole, room_length}
+use Rattle.rp_make_promise.proofs.Since.{since_looked, since_made}
 
 -- a plan was carried out, or the first of its calls
 pub record Carried (number : ℕ) (old : List ℕ) (before now : List Made) : Type 0 where
@@ -55,15 +58,15 @@ Reached number old before now =
     ⊎ ((len : ℕ) × (room_in old ≡ Ok len) × MadeFirst before (Sync ∷ growth_calls len) now)
     ⊎ Carried number old before now
 
-module _ (number : ℕ) (disk later : Device) (out after : Output) (status : ℕ) (bytes : List ℕ) (tells : disk.first ≡ Some bytes) where
+module _ (number : ℕ) (disk later : Device) (out after : Output) (status : ℕ) (past : Past) (can : CanHave past later) where
   abbrev old : List ℕ
-  old = held (history_of bytes disk.calls)
+  old = held (history_of past disk.calls)
 
   abbrev files : List Stored
   files = source_files number
 
   abbrev All : Type 0
-  All = Reached number (held (history_of bytes disk.calls)) disk.calls later.calls
+  All = Reached number (held (history_of past disk.calls)) disk.calls later.calls
 
   -- nothing is asked of the disk behind the plan but to read
   compared : (front : List ℕ) (planned : Planned) (mid : Device) → MakesCompared front planned mid later out after status
@@ -81,7 +84,7 @@ module _ (number : ℕ) (disk later : Device) (out after : Output) (status : ℕ
         → MakesChecked (seed_of number) front definitions mid later left drained out after status → later.calls ≡ mid.calls
     checked front mid left drained (seen, answer, plans, behind) =
         compared_behind front seen answer behind
-        ∙ (only_read (check_request (seed_of number) X86_64 512) definitions.list mid seen left drained answer plans).1
+        ∙ plans.1.only_read.calls
 
     checked_behind : (planned : Planned) (mid : Device) (left drained : Store (List Stored)) (answer : Outcome)
         → MakesCheckedBehind number (seed_of number) definitions planned mid later left drained out after status answer
@@ -89,42 +92,36 @@ module _ (number : ℕ) (disk later : Device) (out after : Output) (status : ℕ
     checked_behind planned mid left drained (Err refusal) (at, same, refuses) = ap (λ (d : Device). d.calls) at
     checked_behind planned mid left drained (Ok done) made = checked (front_text number planned) mid left drained made
 
-    module _ (len : ℕ) (room : room_in (held (history_of bytes disk.calls)) ≡ Ok len) (short : len ≤ length_made) (grown : Device)
-        (first : grown.first ≡ Some bytes) (behind : grown.calls ≡ disk.calls ++ dones (Sync ∷ growth_calls len))
+    module _ (len : ℕ) (room : room_in (held (history_of past disk.calls)) ≡ Ok len) (short : len ≤ length_made) (grown : Device)
+        (behind : grown.calls ≡ disk.calls ++ dones (Sync ∷ growth_calls len))
         (drained : Store (List Stored)) where
-      pub image : held (history_of bytes grown.calls) ≡ grown_image old
-      image = held_grown bytes disk.calls grown.calls len behind (room_length old len room) short
-
-      only : (seen : Device) (asked : Store (List Stored)) (answer : Result Planned Refusal)
-          → PlansImage (make_request (seed_of number)) definitions.list grown seen (made_store files) asked answer
-          → (seen.first ≡ grown.first) × (seen.calls ≡ grown.calls)
-      only seen asked answer plans =
-          only_read (make_request (seed_of number)) definitions.list grown seen (made_store files) asked answer plans
+      pub image : held (history_of past grown.calls) ≡ grown_image old
+      image = held_grown past disk.calls grown.calls len behind (room_length old len room) short
 
       -- the growth was made
       grown_alone : later.calls ≡ grown.calls → All
       grown_alone same = inr (inl (len, room, made_whole disk.calls later.calls (Sync ∷ growth_calls len) (same ∙ behind)))
 
-      module _ (seen made : Device) (asked left : Store (List Stored)) (planned : Planned) (calls : List Call) (answer : Outcome)
+      module _ (seen made : Device) (asked left : Store (List Stored)) (planned : Planned) (answer : Outcome)
           (plans : PlansImage (make_request (seed_of number)) definitions.list grown seen (made_store (source_files number)) asked (Ok planned))
-          (fits : PlanFits planned) (carries : CarriesOut definitions planned seen made asked left calls answer) where
+          (fits : PlanFits planned) (carries : CarriesOut definitions planned seen made asked left answer) (now : CanHave past made) where
+        -- the calls that were made, or the first of them
+        abbrev pub calls : List Call
+        calls = (carries.runs (Some past) now).0
+
         pub exact : calls ≡ calls_for planned.plan planned.seen (Given definitions.list files)
         exact =
             let P : List Stored → Type 0 = λ stored. (calls ≡ calls_for planned.plan planned.seen (Given definitions.list stored))
             × IfErr answer (λ refusal. refusal.status ≡ exit.changed → ⊥) in
-            let on_disk : IfSome asked.told P =
-            subst (λ (o : Option (List ℕ)). IfSome (history_told o seen.calls) (λ h. IfSome asked.told P))
-            ((only seen asked (Ok planned) plans).0 ∙ first) carries.exact in
             (subst (λ (o : Option (List Stored)). IfSome o P)
-            (told_same (make_request (seed_of number)) definitions.list grown seen (made_store files) asked planned plans) on_disk).0
+            (told_same (make_request (seed_of number)) definitions.list grown seen (made_store files) asked planned plans)
+            (carries.runs (Some past) now).1.exact).0
 
         pub told : planned_of (make_request (seed_of number)) definitions.list (grown_image old) files ≡ Ok planned
         told =
-            let on_disk : planned_of (make_request (seed_of number)) definitions.list (held (history_of bytes grown.calls)) files ≡ Ok planned =
-            subst (λ (o : Option (List ℕ)). IfSome (history_told o grown.calls)
-            (λ h. planned_of (make_request (seed_of number)) definitions.list (held h) (source_files number) ≡ Ok planned)) first
-            (is_told (make_request (seed_of number)) definitions.list grown seen (made_store files) asked planned plans) in
-            subst (λ (i : List ℕ). planned_of (make_request (seed_of number)) definitions.list i (source_files number) ≡ Ok planned) image on_disk
+            subst (λ (i : List ℕ). planned_of (make_request (seed_of number)) definitions.list i (source_files number) ≡ Ok planned) image
+            (is_told (make_request (seed_of number)) definitions.list grown seen (made_store files) asked planned plans past
+            (can_before carries.earlier now))
 
         pub planned_so : planned_for number (grown_image old) ≡ Ok (definitions, planned)
         planned_so =
@@ -135,14 +132,11 @@ module _ (number : ℕ) (disk later : Device) (out after : Output) (status : ℕ
 
         known : IsGoalOf (make_request (seed_of number)) definitions.list (grown_image old) planned
         known =
-            let on_disk : IsGoalOf (make_request (seed_of number)) definitions.list (held (history_of bytes grown.calls)) planned =
-            subst (λ (o : Option (List ℕ)). IfSome (history_told o grown.calls)
-            (λ h. IsGoalOf (make_request (seed_of number)) definitions.list (held h) planned)) first
+            subst (λ (i : List ℕ). IsGoalOf (make_request (seed_of number)) definitions.list i planned) image
             (is_goal (make_request (seed_of number)) definitions.list grown seen (made_store files) asked planned (inl refl) refl (omega arith)
-            formed fits plans) in
-            subst (λ (i : List ℕ). IsGoalOf (make_request (seed_of number)) definitions.list i planned) image on_disk
+            formed fits plans past (can_before carries.earlier now))
 
-        pub carried : later.calls ≡ made.calls → Carried number (held (history_of bytes disk.calls)) disk.calls later.calls
+        pub carried : later.calls ≡ made.calls → Carried number (held (history_of past disk.calls)) disk.calls later.calls
         carried same = record {
           len = len;
           room = room;
@@ -153,20 +147,21 @@ module _ (number : ℕ) (disk later : Device) (out after : Output) (status : ℕ
           known = known;
           fits = fits;
           made = subst (λ (l : List Call). MadeFirst disk.calls ((Sync ∷ growth_calls len) ++ l) later.calls) exact
-              (behind_all disk.calls seen.calls later.calls (Sync ∷ growth_calls len) calls ((only seen asked (Ok planned) plans).1 ∙ behind)
+              (behind_all disk.calls seen.calls later.calls (Sync ∷ growth_calls len) calls (plans.1.only_read.calls ∙ behind)
               (subst (λ (l : List Made). MadeFirst seen.calls calls l) (sym same)
-              (made_first answer seen.calls made.calls calls carries.ran)));
+              (made_first answer seen.calls made.calls calls (carries.runs (Some past) now).1.ran)));
         }
 
       by_plan : (seen : Device) (asked : Store (List Stored)) (answer : Result Planned Refusal)
           → PlansImage (make_request (seed_of number)) definitions.list grown seen (made_store files) asked answer → IfOk answer PlanFits
           → MakesPlannedBehind number (seed_of number) definitions seen later asked drained out after status answer → All
       by_plan seen asked (Err refusal) plans fits (at, same, refuses) =
-          grown_alone (ap (λ (d : Device). d.calls) at ∙ (only seen asked (Err refusal) plans).1)
+          grown_alone (ap (λ (d : Device). d.calls) at ∙ plans.1.only_read.calls)
       by_plan seen asked (Ok planned) plans fits (inl (at, same, refuses)) =
-          grown_alone (ap (λ (d : Device). d.calls) at ∙ (only seen asked (Ok planned) plans).1)
-      by_plan seen asked (Ok planned) plans fits (inr (calls, made, left, answer, carries, stays, checked)) =
-          inr (inr (carried seen made asked left planned calls answer plans fits carries
+          grown_alone (ap (λ (d : Device). d.calls) at ∙ plans.1.only_read.calls)
+      by_plan seen asked (Ok planned) plans fits (inr (made, left, answer, carries, stays, checked)) =
+          inr (inr (carried seen made asked left planned answer plans fits carries
+          (can_before (since_made number (seed_of number) definitions later out after status planned made left drained answer checked) can)
           (checked_behind planned made left drained answer checked)))
 
     module _ (opened : Device) (opens : Opens disk opened (Ok tt)) where
@@ -177,29 +172,25 @@ module _ (number : ℕ) (disk later : Device) (out after : Output) (status : ℕ
       sync_alone same = inl (made_sync disk.calls later.calls (same ∙ synced))
 
       -- the image may be grown
-      pub room_told : (looked : Device) (len : ℕ) → Looks room_in opened looked (Ok len) → room_in (held (history_of bytes disk.calls)) ≡ Ok len
-      room_told looked len looks =
-          let on_disk : Settles disk_refusal (room_in (held (history_of bytes opened.calls))) (Ok len) =
-          subst (λ (o : Option (List ℕ)). IfSome (history_told o opened.calls) (λ h. Settles disk_refusal (room_in (held h)) (Ok len)))
-          (opens.first ∙ tells) looks.settled in
+      pub room_told : (looked : Device) (len : ℕ) → Looks room_in opened looked (Ok len) → CanHave past looked → room_in (held (history_of past disk.calls)) ≡ Ok len
+      room_told looked len looks now =
           settled_ok disk_refusal (room_in old) len
           (subst (λ (i : List ℕ). Settles disk_refusal (room_in i) (Ok len))
-          (ap (λ (l : List Made). held (history_of bytes l)) synced ∙ same_shown bytes disk.calls) on_disk)
+          (ap (λ (l : List Made). held (history_of past l)) synced ∙ same_shown past disk.calls) (looks.settled past now))
 
       by_growth : (looked grown : Device) (len : ℕ) (drained : Store (List Stored)) (answer : Result (Unit {0}) Failed)
-          → Looks room_in opened looked (Ok len) → Grows len looked grown answer
+          → Looks room_in opened looked (Ok len) → CanHave past looked → Grows len looked grown answer
           → MakesGrownBehind number (seed_of number) definitions grown later (made_store files) drained out after status answer → All
-      by_growth looked grown len drained (Err e) looks grows (at, same, refuses) =
+      by_growth looked grown len drained (Err e) looks now grows (at, same, refuses) =
           inr (inl (
             len,
-            room_told looked len looks,
+            room_told looked len looks now,
             behind_all disk.calls looked.calls later.calls (Sync ∷ []) (growth_calls len) (looks.only_read.calls ∙ synced)
                 (subst (λ (d : Device). MadeFirst looked.calls (growth_calls len) d.calls) (sym at)
                 (made_first {T = Unit {0}} {E = Failed} (Err e) looked.calls grown.calls (growth_calls len) grows.ran)),
           ))
-      by_growth looked grown len drained (Ok done) looks grows (seen, asked, answer, plans, fits, behind) =
-          by_plan len (room_told looked len looks) looks.short grown
-          (grows.first ∙ looks.only_read.first ∙ opens.first ∙ tells)
+      by_growth looked grown len drained (Ok done) looks now grows (seen, asked, answer, plans, fits, behind) =
+          by_plan len (room_told looked len looks now) looks.short grown
           (more disk.calls looked.calls grown.calls (Sync ∷ []) (growth_calls len) (looks.only_read.calls ∙ synced) grows.ran.ok)
           drained seen asked answer plans fits behind
 
@@ -207,7 +198,10 @@ module _ (number : ℕ) (disk later : Device) (out after : Output) (status : ℕ
           → MakesLookedBehind number (seed_of number) definitions looked later (made_store files) drained out after status answer → All
       by_look looked drained (Err refusal) looks (at, same, refuses) =
           sync_alone (ap (λ (d : Device). d.calls) at ∙ looks.only_read.calls)
-      by_look looked drained (Ok len) looks (grown, answer, grows, behind) = by_growth looked grown len drained answer looks grows behind
+      by_look looked drained (Ok len) looks (grown, answer, grows, behind) =
+          by_growth looked grown len drained answer looks
+          (can_before (since_looked number (seed_of number) definitions later out after status looked (made_store files) drained (Ok len)
+          (grown, answer, grows, behind)) can) grows behind
 
     by_opening : (opened : Device) (drained : Store (List Stored)) (answer : Outcome) → Opens disk opened answer
         → MakesOpenedBehind number (seed_of number) definitions opened later (made_store files) drained out after status answer → All

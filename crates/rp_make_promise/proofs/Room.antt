@@ -5,7 +5,7 @@ use Rattle.std.proofs.lemmas.Bool.{ltb-false}
 use Rattle.rp_base.specs.declared.seen.Seen.{Seen}
 use Rattle.rp_disk.specs.Calls.{all_done, resized}
 use Rattle.rp_disk.specs.History.{held}
-use Rattle.rp_disk.specs.Made.{Made, dones, history_of}
+use Rattle.rp_disk.specs.Made.{Made, Past, dones, history_of}
 use Rattle.rp_disk.specs.Runs.{MadeFirst}
 use Rattle.rp_disk.specs.declared.call.Call.{Call}
 use Rattle.rp_disk.specs.declared.call.Call.TheVariants.{SetLen, Sync}
@@ -76,11 +76,11 @@ same_grown old len is short e =
     sym (grown_so false old (λ none. omega (arith, least, short, is)))
 
 -- the image shown behind them
-pub held_grown : (bytes : List ℕ) (old now : List Made) (len : ℕ) → now ≡ old ++ dones (Sync ∷ growth_calls len)
-    → len ≡ length (held (history_of bytes old)) → len ≤ length_made → held (history_of bytes now) ≡ grown_image (held (history_of bytes old))
-held_grown bytes old now len made is short =
-    ap (λ (l : List Made). held (history_of bytes l)) made ∙ ap held (history_of-dones bytes old (Sync ∷ growth_calls len))
-    ∙ held-all_did (history_of bytes old) (Sync ∷ growth_calls len) ∙ grown_is (held (history_of bytes old)) len is short
+pub held_grown : (past : Past) (old now : List Made) (len : ℕ) → now ≡ old ++ dones (Sync ∷ growth_calls len)
+    → len ≡ length (held (history_of past old)) → len ≤ length_made → held (history_of past now) ≡ grown_image (held (history_of past old))
+held_grown past old now len made is short =
+    ap (λ (l : List Made). held (history_of past l)) made ∙ ap held (history_of-dones past old (Sync ∷ growth_calls len))
+    ∙ held-all_did (history_of past old) (Sync ∷ growth_calls len) ∙ grown_is (held (history_of past old)) len is short
 
 -- the first calls of a longer plan
 pub longer : (old new : List Made) (plan rest : List Call) → MadeFirst old plan new → MadeFirst old (plan ++ rest) new

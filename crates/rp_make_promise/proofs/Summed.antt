@@ -3,16 +3,18 @@ use Rattle.std.proofs.Common.{ℕ, ◌≡◌, ◌≤◌, ◌∙◌, ◌+◌, ◌
 use Rattle.std.specs.Prelude.{IfSome, codes, count_by, nat_lt}
 use Rattle.std.proofs.lemmas.List.Sums.{sum_by-append}
 use Rattle.hex.specs.Hex.{encode_lower}
-use Rattle.rp_apply_command.proofs.Goals.{is_told, only_read, told_same}
+use Rattle.rp_apply_command.proofs.Goals.{is_told, told_same}
 use Rattle.rp_apply.specs.Sourced.{paths_of}
 use Rattle.rp_base.specs.declared.plan.Plan.{Plan}
 use Rattle.rp_check_command.specs.Reports.{same_line}
 use Rattle.rp_defs.specs.declared.definition.Definitions.{Definitions}
 use Rattle.rp_disk.specs.Calls.{is_write}
+use Rattle.rp_disk.specs.Device.{CanHave}
 use Rattle.rp_disk.specs.History.{held}
-use Rattle.rp_disk.specs.Made.{Made, dones, history_of, history_told}
+use Rattle.rp_disk.specs.Made.{Made, Past, dones, history_of}
 use Rattle.rp_disk.specs.declared.call.Call.{Call}
 use Rattle.rp_disk.specs.declared.call.Call.TheVariants.{SetLen, Sync}
+use Rattle.rp_disk.proofs.Noting.{can_before}
 use Rattle.rp_disk.proofs.Runs.{more}
 use Rattle.rp_io.specs.declared.stored.Stored.{Stored}
 use Rattle.rp_make_command.specs.Makes.{Makes, made_store, make_request}
@@ -58,12 +60,12 @@ writes_behind len calls =
     ∙ ap (λ (n : ℕ). n + count_by is_write calls) (no_writes (nat_lt len length_made)) ∙ zero-add (count_by is_write calls)
 
 module _ (number : ℕ) (disk later : Device) (out after : Output) (high : number ≤ 100) (w : Went number disk later out after)
-    (bytes : List ℕ) (tells : disk.first ≡ Some bytes) where
+    (past : Past) (can : CanHave past later) where
   abbrev files : List Stored
   files = source_files number
 
   abbrev image : List ℕ
-  image = held (history_of bytes w.grown.calls)
+  image = held (history_of past w.grown.calls)
 
   pub has : HasDefinitions number
   has = has_definitions number high
@@ -80,46 +82,46 @@ module _ (number : ℕ) (disk later : Device) (out after : Output) (high : numbe
   count : length w.definitions.list ≡ number + 2
   count = subst (λ (d : Definitions). length d.list ≡ number + 2) same has.count
 
-  -- what the disk told at first
-  pub first : w.grown.first ≡ Some bytes
-  first = w.grows.first ∙ w.looks.only_read.first ∙ w.opens.first ∙ tells
-
-  only : (w.seen.first ≡ w.grown.first) × (w.seen.calls ≡ w.grown.calls)
-  only = only_read (make_request (seed_of number)) w.definitions.list w.grown w.seen (made_store files) w.asked (Ok w.planned) w.plans
+  -- the past is one that the disk could have once the plan was carried out
+  pub now : CanHave past w.made
+  now = can_before w.since can
 
   -- what was planned is the goal of the image that was grown
   pub told : planned_of (make_request (seed_of number)) w.definitions.list image files ≡ Ok w.planned
-  told = subst (λ (o : Option (List ℕ)). IfSome (history_told o w.grown.calls)
-      (λ h. planned_of (make_request (seed_of number)) w.definitions.list (held h) (source_files number) ≡ Ok w.planned)) first
-      (is_told (make_request (seed_of number)) w.definitions.list w.grown w.seen (made_store files) w.asked w.planned w.plans)
+  told = is_told (make_request (seed_of number)) w.definitions.list w.grown w.seen (made_store files) w.asked w.planned w.plans past
+      (can_before w.carries.earlier now)
 
-  -- and the calls are those of its steps
-  pub exact : w.calls ≡ calls_for w.planned.plan w.planned.seen (sources_in files (paths_of w.definitions.list))
+  -- the calls that were made of it
+  abbrev calls : List Call
+  calls = (w.carries.runs (Some past) now).0
+
+  -- they are those of its steps
+  pub exact : calls ≡ calls_for w.planned.plan w.planned.seen (sources_in files (paths_of w.definitions.list))
   exact =
       let P : List Stored → Type 0 = λ stored.
-      (w.calls ≡ calls_for w.planned.plan w.planned.seen (sources_in stored (paths_of w.definitions.list))) × Unit {0} in
-      let on_disk : IfSome w.asked.told P =
-      subst (λ (o : Option (List ℕ)). IfSome (history_told o w.seen.calls) (λ h. IfSome w.asked.told P)) (only.0 ∙ first) w.carries.exact in
+      (calls ≡ calls_for w.planned.plan w.planned.seen (sources_in stored (paths_of w.definitions.list))) × Unit {0} in
       (subst (λ (o : Option (List Stored)). IfSome o P)
-      (told_same (make_request (seed_of number)) w.definitions.list w.grown w.seen (made_store files) w.asked w.planned w.plans) on_disk).0
+      (told_same (make_request (seed_of number)) w.definitions.list w.grown w.seen (made_store files) w.asked w.planned w.plans)
+      (w.carries.runs (Some past) now).1.exact).0
 
   -- all calls since the start
   pub grown_by : w.grown.calls ≡ disk.calls ++ dones ((Sync ∷ []) ++ growth_calls w.len)
   grown_by = more disk.calls w.opened.calls w.grown.calls (Sync ∷ []) (growth_calls w.len) w.opens.ran.ok
       (w.grows.ran.ok ∙ ap (λ (l : List Made). l ++ dones (growth_calls w.len)) w.looks.only_read.calls)
 
-  pub made_all : later.calls ≡ disk.calls ++ dones ((Sync ∷ growth_calls w.len) ++ w.calls)
-  made_all = more disk.calls w.seen.calls later.calls (Sync ∷ growth_calls w.len) w.calls (only.1 ∙ grown_by) (w.same ∙ w.carries.ran.ok)
+  pub made_all : later.calls ≡ disk.calls ++ dones ((Sync ∷ growth_calls w.len) ++ calls)
+  made_all = more disk.calls w.seen.calls later.calls (Sync ∷ growth_calls w.len) calls (w.plans.1.only_read.calls ∙ grown_by)
+      (w.same ∙ (w.carries.runs (Some past) now).1.ran.ok)
 
-  counted : writes (steps w.planned.plan w.planned.seen) ≡ count_by is_write ((Sync ∷ growth_calls w.len) ++ w.calls)
+  counted : writes (steps w.planned.plan w.planned.seen) ≡ count_by is_write ((Sync ∷ growth_calls w.len) ++ calls)
   counted =
-      sym (writes_behind w.len w.calls ∙ ap (count_by is_write) exact
+      sym (writes_behind w.len calls ∙ ap (count_by is_write) exact
       ∙ writes-calls w.planned.plan (sources_in files (paths_of w.definitions.list)) w.planned.seen
       (plan_formed number w.definitions.list image w.planned w.formed each pair high told))
 
   pub summed : TellsSummary number disk later out after
   summed = record {
-    calls = (Sync ∷ growth_calls w.len) ++ w.calls;
+    calls = (Sync ∷ growth_calls w.len) ++ calls;
     made = made_all;
     printed = subst (PrintsAll out after)
         (front_is number (writes (steps w.planned.plan w.planned.seen)) (number + 2) (root_of_number number) w.planned.plan
@@ -130,7 +132,7 @@ module _ (number : ℕ) (disk later : Device) (out after : Output) (high : numbe
 
 -- whatever it made
 pub tells_so : (number : ℕ) (disk later : Device) (out after : Output) (status : ℕ) → number ≤ 100
-    → Makes number disk later out after status → (bytes : List ℕ) → disk.first ≡ Some bytes → status ≡ 0
+    → Makes number disk later out after status → (past : Past) → CanHave past later → status ≡ 0
     → TellsSummary number disk later out after
-tells_so number disk later out after status high makes bytes tells done =
-    summed number disk later out after high (went number disk later out after status done makes) bytes tells
+tells_so number disk later out after status high makes past can done =
+    summed number disk later out after high (went number disk later out after status done makes) past can

@@ -12,8 +12,9 @@ use Rattle.rp_base.specs.declared.seen.Seen.{Seen}
 use Rattle.rp_check_command.specs.Checks.{check_request}
 use Rattle.rp_defs.specs.declared.definition.Definition.{Definition}
 use Rattle.rp_demand.specs.declared.demand.Demand.{Demand}
+use Rattle.rp_disk.specs.Device.{CanHave}
 use Rattle.rp_disk.specs.History.{held}
-use Rattle.rp_disk.specs.Made.{history_of, history_told}
+use Rattle.rp_disk.specs.Made.{Past, history_of}
 use Rattle.rp_gpt.specs.declared.table_fault.TableFault.{TableFault}
 use Rattle.rp_difference.specs.Difference.{difference}
 use Rattle.rp_stops.specs.After.{seen_after}
@@ -71,12 +72,12 @@ same_facts known facts (inr (inl e)) = absurd (cc)
 same_facts known facts (inr (inr e)) = absurd (cc)
 
 module _ (request : Request) (list : List Definition) (disk later : Device) (sources drained : Store (List Stored)) (refusal : Refusal)
-    (bytes : List ℕ) (files : List Stored) (tells : disk.first ≡ Some bytes) (told : sources.told ≡ Some files) where
+    (past : Past) (files : List Stored) (can : CanHave past later) (told : sources.told ≡ Some files) where
   abbrev image : List ℕ
-  image = held (history_of bytes disk.calls)
+  image = held (history_of past disk.calls)
 
   abbrev Untold : Type 0
-  Untold = (planned_of request list (held (history_of bytes disk.calls)) files ≡ Err refusal)
+  Untold = (planned_of request list (held (history_of past disk.calls)) files ≡ Err refusal)
       ⊎ (refusal ≡ disk_refusal) ⊎ (refusal ≡ source_refusal) ⊎ (refusal ≡ memory_refusal)
 
   behind : (seen : Seen) → seen_of request.sector request.empty image ≡ Ok seen → planned_of request list image files
@@ -117,5 +118,4 @@ module _ (request : Request) (list : List Definition) (disk later : Device) (sou
       (settled_ok disk_refusal (seen_of request.sector request.empty image) seen settles) plans
 
   pub untold : PlansImage request list disk later sources drained (Err refusal) → Untold
-  untold plans = by_seen plans.0 (subst (λ (o : Option (List ℕ)). IfSome (history_told o disk.calls)
-      (λ h. Settles disk_refusal (seen_of request.sector request.empty (held h)) plans.0)) tells plans.1.settled) plans.2
+  untold plans = by_seen plans.0 (plans.1.settled past can) plans.2

@@ -4,14 +4,14 @@ use Rattle.std.specs.Prelude.{IfOk}
 use Rattle.rp_apply_command.specs.Applies.{CarriesOut, Opens, Outcome, PlanFits}
 use Rattle.rp_apply_command.specs.Ends.{IsBefore, IsBetween}
 use Rattle.rp_apply_command.proofs.Ended.{is_commit, not_before, not_between}
-use Rattle.rp_apply_command.proofs.Goals.{IsRefused, none_planned, only_read, settled_ok}
+use Rattle.rp_apply_command.proofs.Goals.{IsRefused, none_planned, settled_ok}
 use Rattle.rp_base.specs.declared.faults.Failed.{Failed}
 use Rattle.rp_check_command.specs.Checks.{Finds, check_request}
 use Rattle.rp_check_command.specs.Reports.{same_line}
 use Rattle.rp_defs.specs.WellFormed.{IsWellFormed}
 use Rattle.rp_defs.specs.declared.definition.Definitions.{Definitions}
 use Rattle.rp_difference.specs.declared.difference.Difference.{Difference}
-use Rattle.rp_disk.specs.declared.call.Call.{Call}
+use Rattle.rp_disk.specs.Device.{Earlier}
 use Rattle.rp_io.specs.Files.{Tree}
 use Rattle.rp_io.specs.declared.stored.Stored.{Stored}
 use Rattle.rp_make_input.specs.MakeInput.{folders_of, make_input, seed_of, source_files, tree_for}
@@ -26,6 +26,7 @@ use Rattle.rp_reading.specs.Reading.{IsReadingRefusal, ReadsDefinitions, definit
 use Rattle.rp_types.specs.declared.arch.Arch.TheVariants.{X86_64}
 use Rattle.rp_make_command.specs.Makes.{Makes, MakesChecked, MakesCheckedBehind, MakesCompared, MakesComparedBehind, MakesGrownBehind, MakesLookedBehind, MakesOpenedBehind, MakesPlannedBehind, MakesReadBehind, TellsFound, made_store, make_request}
 use Rattle.rp_make_command.specs.Summary.{TellsMade, front_text}
+use Rattle.rp_make_promise.proofs.Since.{since_made}
 
 -- what was done, stage by stage
 pub record Went (number : ℕ) (disk later : Device) (out after : Output) : Type 0 where
@@ -41,13 +42,13 @@ pub record Went (number : ℕ) (disk later : Device) (out after : Output) : Type
   pub planned : Planned
   pub asked : Store (List Stored)
   pub left : Store (List Stored)
-  pub calls : List Call
   pub opens : Opens disk opened (Ok tt)
   pub looks : Looks room_in opened looked (Ok len)
   pub grows : Grows {T = Unit {0}} {E = Failed} len looked grown (Ok tt)
   pub plans : PlansImage (make_request (seed_of number)) definitions.list grown seen (made_store (source_files number)) asked (Ok planned)
   pub fits : PlanFits planned
-  pub carries : CarriesOut definitions planned seen made asked left calls (Ok tt)
+  pub carries : CarriesOut definitions planned seen made asked left (Ok tt)
+  pub since : Earlier made later
   pub same : later.calls ≡ made.calls
   pub printed : PrintsAll out after (front_text number planned ++ same_line)
 
@@ -107,18 +108,17 @@ module _ (number : ℕ) (disk later : Device) (out after : Output) (status : ℕ
       by_answer (Err refusal) plans (at, refuses) =
           refused refusal (none_planned (check_request (seed_of number) X86_64 512) definitions.list mid seen left drained refusal plans) refuses
       by_answer (Ok planned) plans compared =
-          let only = only_read (check_request (seed_of number) X86_64 512) definitions.list mid seen left drained (Ok planned) plans in
-          let more = found_so front planned seen compared in (more.0 ∙ only.1, more.1)
+          let more = found_so front planned seen compared in (more.0 ∙ plans.1.only_read.calls, more.1)
 
     module _ (opened looked grown : Device) (len : ℕ) (drained : Store (List Stored)) (opens : Opens disk opened (Ok tt))
         (looks : Looks room_in opened looked (Ok len)) (grows : Grows {T = Unit {0}} {E = Failed} len looked grown (Ok tt)) where
-      carried_so : (seen made : Device) (asked left : Store (List Stored)) (planned : Planned) (calls : List Call) (answer : Outcome)
+      carried_so : (seen made : Device) (asked left : Store (List Stored)) (planned : Planned) (answer : Outcome)
           → PlansImage (make_request (seed_of number)) definitions.list grown seen (made_store (source_files number)) asked (Ok planned)
-          → PlanFits planned → CarriesOut definitions planned seen made asked left calls answer
+          → PlanFits planned → CarriesOut definitions planned seen made asked left answer
           → MakesCheckedBehind number (seed_of number) definitions planned made later left drained out after status answer → All
-      carried_so seen made asked left planned calls (Err refusal) plans fits carries (at, same, refuses) =
+      carried_so seen made asked left planned (Err refusal) plans fits carries (at, same, refuses) =
           refused refusal (inr (is_commit planned refusal carries.refusal)) refuses
-      carried_so seen made asked left planned calls (Ok value) plans fits carries checked =
+      carried_so seen made asked left planned (Ok value) plans fits carries checked =
           let end = checked_so (front_text number planned) made left drained checked in record {
             definitions = definitions;
             are = are;
@@ -132,13 +132,13 @@ module _ (number : ℕ) (disk later : Device) (out after : Output) (status : ℕ
             planned = planned;
             asked = asked;
             left = left;
-            calls = calls;
             opens = opens;
             looks = looks;
             grows = grows;
             plans = plans;
             fits = fits;
             carries = carries;
+            since = since_made number (seed_of number) definitions later out after status planned made left drained (Ok value) checked;
             same = end.0;
             printed = end.1;
           }
@@ -151,8 +151,8 @@ module _ (number : ℕ) (disk later : Device) (out after : Output) (status : ℕ
           refused refusal (none_planned (make_request (seed_of number)) definitions.list grown seen (made_store (source_files number)) asked
           refusal plans) refuses
       planned_so seen asked (Ok planned) plans fits (inl (at, same, refuses)) = refused memory_refusal is_memory refuses
-      planned_so seen asked (Ok planned) plans fits (inr (calls, made, left, answer, carries, stays, behind)) =
-          carried_so seen made asked left planned calls answer plans fits carries behind
+      planned_so seen asked (Ok planned) plans fits (inr (made, left, answer, carries, stays, behind)) =
+          carried_so seen made asked left planned answer plans fits carries behind
 
     grown_so : (opened looked grown : Device) (len : ℕ) (drained : Store (List Stored)) (answer : Result (Unit {0}) Failed)
         → Opens disk opened (Ok tt) → Looks room_in opened looked (Ok len) → Grows len looked grown answer

@@ -1,4 +1,4 @@
--- With what status a run of `make` ends on a disk that tells its bytes.
+-- With what status a run of `make` ends on a disk that can have a past.
 use Rattle.std.specs.Prelude.{ℕ, ◌≡◌, ◌⊎◌, List, Result, Ok, Err}
 use Rattle.rp_base.specs.Faults.{Rose}
 use Rattle.rp_defs.specs.declared.definition.Definitions.{Definitions}

@@ -4,7 +4,7 @@ use Rattle.rp_apply_command.specs.Ends.{AtTheEnd, Given}
 use Rattle.rp_defs.specs.declared.definition.Definitions.{Definitions}
 use Rattle.rp_disk.specs.Calls.{resized}
 use Rattle.rp_disk.specs.History.{held}
-use Rattle.rp_disk.specs.Made.{dones, history_of}
+use Rattle.rp_disk.specs.Made.{Past, dones, history_of}
 use Rattle.rp_disk.specs.Stops.{IsFrontOf, Leaves}
 use Rattle.rp_disk.specs.declared.call.Call.{Call}
 use Rattle.rp_disk.specs.declared.call.Call.TheVariants.{Sync}
@@ -69,10 +69,10 @@ abbrev pub IsLeftInMaking : ℕ → List ℕ → List Call → List ℕ → Type
 IsLeftInMaking number old more image = IsInGrowth old more image ⊎ IsBehindGrowth number old more image
 
 -- an image is made: each call was done whole, and a stop leaves the goal of the grown image alone, with the contents of all its rows
-pub record LeavesGoal (number : ℕ) (disk later : Device) (bytes : List ℕ) : Type 0 where
+pub record LeavesGoal (number : ℕ) (disk later : Device) (past : Past) : Type 0 where
   pub definitions : Definitions
   pub planned : Planned
-  pub goal : planned_for number (grown_image (held (history_of bytes disk.calls))) ≡ Ok (definitions, planned)
-  pub all : later.calls ≡ disk.calls ++ dones (make_calls number (held (history_of bytes disk.calls)))
-  pub ends : AtTheEnd bytes later (IsDoneWith 512 (grown_image (held (history_of bytes disk.calls))) planned.seen definitions.list
-      (seed_of number) planned.plan (contents_for number (grown_image (held (history_of bytes disk.calls))) definitions planned))
+  pub goal : planned_for number (grown_image (held (history_of past disk.calls))) ≡ Ok (definitions, planned)
+  pub all : later.calls ≡ disk.calls ++ dones (make_calls number (held (history_of past disk.calls)))
+  pub ends : AtTheEnd past later (IsDoneWith 512 (grown_image (held (history_of past disk.calls))) planned.seen definitions.list
+      (seed_of number) planned.plan (contents_for number (grown_image (held (history_of past disk.calls))) definitions planned))

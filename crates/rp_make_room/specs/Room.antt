@@ -1,9 +1,10 @@
 -- What becomes of an image before what is made is planned for it: own rules.
-use Rattle.std.specs.Prelude.{ℕ, ◌≡◌, ◌⊎◌, ◌≤◌, ◌/◌, ◌%◌, ◌^◌, ◌==◌, ◌&&◌, nat_le, nat_lt, if◌then◌else◌, List, [], ◌∷◌, Bool, codes, length, Result, Ok, Err, IfOk, IfErr, IfSome}
+use Rattle.std.specs.Prelude.{ℕ, ◌≡◌, ◌⊎◌, ◌≤◌, ◌/◌, ◌%◌, ◌^◌, ◌==◌, ◌&&◌, nat_le, nat_lt, if◌then◌else◌, List, [], ◌∷◌, Bool, codes, length, Result, Ok, Err, IfOk, IfErr}
 use Rattle.std.specs.Fmt.{decimal}
 use Rattle.rp_base.specs.Faults.{HasCause}
 use Rattle.rp_base.specs.Geometry.{least_sectors}
 use Rattle.rp_base.specs.declared.seen.Seen.{Seen}
+use Rattle.rp_disk.specs.Device.{Earlier, Known}
 use Rattle.rp_disk.specs.History.{held}
 use Rattle.rp_disk.specs.Runs.{Runs}
 use Rattle.rp_disk.specs.declared.call.Call.{Call}
@@ -12,7 +13,7 @@ use Rattle.rp_gpt.specs.Shown.{accepted}
 use Rattle.rp_gpt.specs.declared.table_fault.Empty.TheVariants.{Require}
 use Rattle.rp_gpt.specs.declared.table_fault.TableFault.{TableFault}
 use Rattle.rp_gpt.specs.declared.table_fault.TableFault.TheVariants.{TooShort}
-use Rattle.rp_outcome.specs.Device.{Device, IsOnlyRead, history}
+use Rattle.rp_outcome.specs.Device.{Device, IsOnlyRead}
 use Rattle.rp_outcome.specs.Refusals.{Refusal, disk_refusal, image_refusal, memory_refusal, table_refusal}
 use Rattle.rp_outcome.specs.Statuses as exit
 use Rattle.rp_reading.specs.Stages.{HasStageCause, Settles}
@@ -60,11 +61,11 @@ room_in image = room_for (length image) image
 abbrev pub IsRoomRefusal : Refusal → Type 0
 IsRoomRefusal refusal = (refusal.status ≡ exit.image) ⊎ (refusal ≡ disk_refusal) ⊎ (refusal ≡ memory_refusal)
 
--- the image on a disk was looked at, and nothing else was asked of the disk; where that is told, the answer is what is said of
--- the image. Over every disk an image that may be grown isn't too long
+-- the image on a disk was looked at, and nothing else was asked of the disk; the answer is what is said of the image, whatever past
+-- the disk can have. Over every disk an image that may be grown isn't too long
 pub record Looks (room : List ℕ → Result ℕ Refusal) (before now : Device) (answer : Result ℕ Refusal) : Type 0 where
   pub only_read : IsOnlyRead before now
-  pub settled : IfSome (history before) (λ h. Settles disk_refusal (room (held h)) answer)
+  pub settled : Known before now (λ h. Settles disk_refusal (room (held h)) answer)
   pub short : IfOk answer (λ len. len ≤ length_made)
   pub refusal : IfErr answer IsRoomRefusal
   pub cause : HasStageCause disk_refusal before.faults now.faults answer
@@ -75,7 +76,7 @@ growth_calls len = if nat_lt len length_made then SetLen length_made ∷ Sync �
 
 -- the image of so many bytes was grown
 pub record Grows {T E : Type 0} (len : ℕ) (before now : Device) (result : Result T E) : Type 0 where
-  pub first : now.first ≡ before.first
+  pub earlier : Earlier before now
   pub ran : Runs before.calls (growth_calls len) now.calls result
-  pub strays : IfSome before.first (λ _. now.strays ≡ before.strays)
+  pub answers : now.answers ≡ before.answers
   pub cause : HasCause before.faults now.faults result

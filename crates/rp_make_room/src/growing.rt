@@ -1,4 +1,3 @@
-ghost use Rattle.rp_outcome.specs.Device.{device};
 ghost use Rattle.rp_make_room.specs.Room.{Grows};
 
 use crate::LENGTH;
@@ -8,7 +7,7 @@ use rp_disk::Disk;
 /// Grows the image on a disk, which has so many bytes, to `LENGTH`, where it has fewer, and syncs the disk then.
 pub fn grow<D: Disk>(disk: &mut D, len: u64) -> Result<(), Failed>
     ensures { Grows len
-        (device D.first D.calls D.faults D.strays disk.old) (device D.first D.calls D.faults D.strays disk.new) result }
+        (D.device disk.old) (D.device disk.new) result }
 {
     if len >= LENGTH {
         return Ok(());

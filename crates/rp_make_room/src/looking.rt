@@ -1,5 +1,4 @@
 ghost use Rattle.std.specs.Prelude.{◌≡◌};
-ghost use Rattle.rp_outcome.specs.Device.{device};
 ghost use Rattle.rp_make_room.specs.Room.{Looks, is_few as is_few_of, is_looked_at as is_looked_at_of, judged as judged_of, refusal_of, room_for, room_in};
 ghost use Rattle.rp_reading.specs.Stages.{refused};
 
@@ -29,7 +28,7 @@ pub enum NoRoom {
 /// has room for one. The disk is read alone.
 pub fn look<D: Disk>(alloc: Global, disk: &mut D) -> Result<u64, NoRoom>
     ensures { Looks room_in
-        (device D.first D.calls D.faults D.strays disk.old) (device D.first D.calls D.faults D.strays disk.new)
+        (D.device disk.old) (D.device disk.new)
         (refused refusal_of result) }
 {
     match disk.len() {
@@ -41,7 +40,7 @@ pub fn look<D: Disk>(alloc: Global, disk: &mut D) -> Result<u64, NoRoom>
 // The same, of an image of so many bytes.
 fn look_at<D: Disk>(alloc: Global, disk: &mut D, len: u64) -> Result<u64, NoRoom>
     ensures { Looks (room_for len)
-        (device D.first D.calls D.faults D.strays disk.old) (device D.first D.calls D.faults D.strays disk.new)
+        (D.device disk.old) (D.device disk.new)
         (refused refusal_of result) }
 {
     if len > LENGTH {

@@ -5,7 +5,8 @@ use Rattle.rp_base.specs.Faults.{Rose}
 use Rattle.rp_defs.specs.declared.definition.Definitions.{Definitions}
 use Rattle.rp_io.specs.Files.{Tree}
 use Rattle.rp_io.specs.declared.stored.Stored.{Stored}
-use Rattle.rp_outcome.specs.Device.{Device, IsOnlyRead, history}
+use Rattle.rp_outcome.specs.Device.{Device, IsOnlyRead}
+use Rattle.rp_disk.specs.Made.{history_told}
 use Rattle.rp_outcome.specs.Output.{Output, Finishes, Prints, PrintsAll, PrintsPart, Refuses}
 use Rattle.rp_outcome.specs.Refusals.{Refusal, disk_refusal, line_of}
 use Rattle.rp_outcome.specs.Store.{Store}
@@ -42,7 +43,7 @@ module _ (request : Request) (json : Bool) (dirs : List (List ℕ)) (folders rea
     (sources drained : Store (List Stored)) (out after : Output) (status : ℕ) where
   -- this is told of the folders, the image and the sources
   abbrev pub Told : Result (Definitions × Planned) Refusal → Type 0
-  Told answer = WhereTold folders disk sources (λ tree image files. told_plan request dirs tree image files ≡ answer)
+  Told answer = WhereTold folders disk later sources (λ tree image files. told_plan request dirs tree image files ≡ answer)
 
   -- a refusal of what folders, image and sources tell
   pub by_refusal : (refusal : Refusal) → IsOnlyRead disk later → later.faults ≡ disk.faults → IsRefused refusal.status → Told (Err refusal)
@@ -59,10 +60,10 @@ module _ (request : Request) (json : Bool) (dirs : List (List ℕ)) (folders rea
     one_of = inl (subst IsRefused e is);
     done = λ f. not_done refusal.status is (e ∙ f);
     cut = λ f. not_refused refusal.status 9 is (e ∙ f) (omega arith);
-    refused = λ f.
-        where_more folders.told (history disk) sources.told _ _
+    refused = λ f. λ o can.
+        where_more folders.told (history_told o disk.calls) sources.told _ _
         (λ tree h files told. subst (λ (answer : Result (Definitions × Planned) Refusal).
-        IsErrAnd answer (λ refusal. (refusal.status ≡ status) × Prints out after (line_of refusal))) (sym told) (e, refuses.printed)) told;
+        IsErrAnd answer (λ refusal. (refusal.status ≡ status) × Prints out after (line_of refusal))) (sym told) (e, refuses.printed)) (told o can);
     disk_line = λ f. not_refused refusal.status 7 is (e ∙ f) (omega arith);
   }
 
@@ -138,10 +139,10 @@ module _ (request : Request) (json : Bool) (dirs : List (List ℕ)) (folders rea
     };
     files = record { failed = λ f. clash status 0 8 e f (λ h. omega arith); kept = λ f. (files_kept, sources_kept) };
     one_of = inr (inl e);
-    done = λ f.
-        where_more folders.told (history disk) sources.told _ _
+    done = λ f. λ o can.
+        where_more folders.told (history_told o disk.calls) sources.told _ _
         (λ tree h files told. subst (λ (answer : Result (Definitions × Planned) Refusal).
-        IsOkAnd answer (λ told. PrintsAll out after (planned_report json told.0 told.1))) (sym told) printed) told;
+        IsOkAnd answer (λ told. PrintsAll out after (planned_report json told.0 told.1))) (sym told) printed) (told o can);
     cut = λ f. clash status 0 9 e f (λ h. omega arith);
     refused = λ f. not_done status f e;
     disk_line = λ f. clash status 0 7 e f (λ h. omega arith);
@@ -157,10 +158,10 @@ module _ (request : Request) (json : Bool) (dirs : List (List ℕ)) (folders rea
     files = record { failed = λ f. clash status 9 8 e f (λ h. omega arith); kept = λ f. clash status 9 0 e f (λ h. omega arith) };
     one_of = inr (inr (inr (inr (inl e))));
     done = λ f. clash status 9 0 e f (λ h. omega arith);
-    cut = λ f.
-        where_more folders.told (history disk) sources.told _ _
+    cut = λ f. λ o can.
+        where_more folders.told (history_told o disk.calls) sources.told _ _
         (λ tree h files told. subst (λ (answer : Result (Definitions × Planned) Refusal).
-        IsOkAnd answer (λ told. PrintsPart out after (planned_report json told.0 told.1))) (sym told) printed) told;
+        IsOkAnd answer (λ told. PrintsPart out after (planned_report json told.0 told.1))) (sym told) printed) (told o can);
     refused = λ f. not_refused status 9 f e (omega arith);
     disk_line = λ f. clash status 9 7 e f (λ h. omega arith);
   }

@@ -11,7 +11,9 @@ use Rattle.rp_disk.specs.History.{held}
 use Rattle.rp_io.specs.Files.{Tree}
 use Rattle.rp_io.specs.declared.stored.Stored.{Stored}
 use Rattle.rp_outcome.specs.Demands.{demand_refusal}
-use Rattle.rp_outcome.specs.Device.{Device, IsOnlyRead, history}
+use Rattle.rp_outcome.specs.Device.{Device, IsOnlyRead, Known}
+use Rattle.rp_disk.specs.Made.{Past, history_of, history_told}
+use Rattle.rp_disk.proofs.Noting.{earlier_same, known_told}
 use Rattle.rp_outcome.specs.Output.{Output, Prints, Refuses}
 use Rattle.rp_outcome.specs.Refusals.{Refusal, disk_refusal, folder_refusal, line_of, memory_refusal, repair_refusal, source_refusal}
 use Rattle.rp_outcome.specs.Store.{Store}
@@ -99,10 +101,7 @@ demand_status list demands.Memory = inr refl
 
 -- a disk that wasn't asked was read alone
 not_asked : (disk later : Device) → later ≡ disk → IsOnlyRead disk later
-not_asked disk later same = subst (IsOnlyRead disk) (sym same) (record { first = refl; calls = refl; strays = unmoved disk.first }) where
-  unmoved : (o : Option (List ℕ)) → IfSome o (λ _. disk.strays ≡ disk.strays)
-  unmoved None = tt
-  unmoved (Some bytes) = refl
+not_asked disk later same = subst (IsOnlyRead disk) (sym same) (record { calls = refl; earlier = earlier_same disk; inside = λ past can. refl })
 
 -- what is told of all, by what is told of the definitions and of the image
 plan_told : (request : Request) (dirs : List (List ℕ)) (tree : Tree) (image : List ℕ) (files : List Stored) (definitions : Definitions) (answer : Result Planned Refusal)
@@ -128,14 +127,14 @@ module _ (request : Request) (json : Bool) (dirs : List (List ℕ)) (folders rea
   by_definitions refusal reads (inl is) same refuses =
       by_refusal request json dirs folders read disk later sources drained out after status refusal (not_asked disk later same)
       (ap (λ (d : Device). d.faults) same) (inl is)
-      (where_each folders.told (history disk) sources.told
+      (λ o can. where_each folders.told (history_told o disk.calls) sources.told
       (λ tree. Settles folder_refusal (definitions_in request.arch tree dirs) (Err refusal)) (λ _. Unit {0}) (λ _. Unit {0})
       (λ tree h files. told_plan request dirs tree (held h) files ≡ Err refusal)
       (λ tree h files settles image none.
       ap (λ (d : Result Definitions Refusal). and_then d (λ definitions.
       and_then (planned_of request definitions.list (held h) files) (λ planned. Ok (definitions, planned))))
       (settled_err folder_refusal refusal (definitions_in request.arch tree dirs) settles (inl is) (omega arith)))
-      reads.settled (where_any (history disk)) (where_any sources.told))
+      reads.settled (where_any (history_told o disk.calls)) (where_any sources.told))
       refuses
   by_definitions refusal reads (inr (inl failed)) same refuses =
       by_files request json dirs folders read disk later sources drained out after status (not_asked disk later same)
@@ -160,13 +159,13 @@ module _ (request : Request) (json : Bool) (dirs : List (List ℕ)) (folders rea
         by_refusal request json dirs folders read disk later sources drained out after status refusal image.only_read
         (kept_err disk_refusal refusal disk.faults later.faults image.cause (λ e. not_refused refusal.status 7 (inr (inl is)) e (omega arith)))
         (inr (inl is))
-        (where_each folders.told (history disk) sources.told (λ tree. definitions_in request.arch tree dirs ≡ Ok definitions)
+        (λ o can. where_each folders.told (history_told o disk.calls) sources.told (λ tree. definitions_in request.arch tree dirs ≡ Ok definitions)
         (λ h. Settles disk_refusal (seen_of request.sector request.empty (held h)) (Err refusal)) (λ _. Unit {0})
         (λ tree h files. told_plan request dirs tree (held h) files ≡ Err refusal)
         (λ tree h files told settles none. plan_told request dirs tree (held h) files definitions (Err refusal) told
         (image_told request definitions.list (held h) files (Err refusal)
         (settled_err disk_refusal refusal (seen_of request.sector request.empty (held h)) settles (inr (inl is)) (omega arith))))
-        listed image.settled (where_any sources.told))
+        listed (known_told o disk later _ image.settled can) (where_any sources.told))
         refuses
     by_image refusal image (inr (inl failed)) refuses =
         by_disk request json dirs folders read disk later sources drained out after status image.only_read
@@ -182,23 +181,21 @@ module _ (request : Request) (json : Bool) (dirs : List (List ℕ)) (folders rea
       kept = kept_ok disk_refusal disk.faults later.faults seen image.cause
 
       -- what the image shows
-      sighted : IfSome (history disk) (λ h. seen_of request.sector request.empty (held h) ≡ Ok seen)
-      sighted = where_one (history disk) (λ h. Settles disk_refusal (seen_of request.sector request.empty (held h)) (Ok seen))
-          (λ h. seen_of request.sector request.empty (held h) ≡ Ok seen)
-          (λ h settles. settled_ok disk_refusal (seen_of request.sector request.empty (held h)) seen settles) image.settled
+      sighted : Known disk later (λ h. seen_of request.sector request.empty (held h) ≡ Ok seen)
+      sighted = λ past can. settled_ok disk_refusal (seen_of request.sector request.empty (held (history_of past disk.calls))) seen (image.settled past can)
 
       -- what is told of all, by what is told of the sources
       all_told : (b : Bool) → must_repair request.size seen ≡ b → (F : List Stored → Type 0) (answer : Result Planned Refusal)
           → ((files : List Stored) → F files → planned_unless b request definitions.list files seen ≡ answer) → IfSome sources.told F
           → Told request json dirs folders read disk later sources drained out after status (and_then answer (λ planned. Ok (definitions, planned)))
       all_told b repair F answer planned by_files =
-          where_each folders.told (history disk) sources.told (λ tree. definitions_in request.arch tree dirs ≡ Ok definitions)
+          λ o can. where_each folders.told (history_told o disk.calls) sources.told (λ tree. definitions_in request.arch tree dirs ≡ Ok definitions)
           (λ h. seen_of request.sector request.empty (held h) ≡ Ok seen) F
           (λ tree h files. told_plan request dirs tree (held h) files ≡ and_then answer (λ planned. Ok (definitions, planned)))
           (λ tree h files told is f. plan_told request dirs tree (held h) files definitions answer told
           (image_told request definitions.list (held h) files (Ok seen) is
           ∙ ap (λ (b : Bool). planned_unless b request definitions.list files seen) repair ∙ planned files f))
-          listed sighted by_files
+          listed (known_told o disk later _ sighted can) by_files
 
       -- the image has to be repaired first
       by_repair : must_repair request.size seen ≡ true → Refuses out after repair_refusal status

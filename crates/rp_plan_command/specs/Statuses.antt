@@ -1,11 +1,13 @@
 -- What is known of `plan` at each status.
-use Rattle.std.specs.Prelude.{ℕ, ◌≡◌, ◌⊎◌, List, Bool, IfSome, IsOkAnd, IsErrAnd, Result, Ok}
+use Rattle.std.specs.Prelude.{ℕ, ◌≡◌, ◌⊎◌, List, Bool, Option, IfSome, IsOkAnd, IsErrAnd, Result, Ok}
 use Rattle.rp_defs.specs.declared.definition.Definitions.{Definitions}
 use Rattle.rp_disk.specs.History.{held}
 use Rattle.rp_io.specs.Files.{Tree}
 use Rattle.rp_io.specs.declared.stored.Stored.{Stored}
 use Rattle.rp_outcome.specs.Causes.{HasCauses}
-use Rattle.rp_outcome.specs.Device.{Device, IsOnlyRead, history}
+use Rattle.rp_outcome.specs.Device.{Device, IsOnlyRead}
+use Rattle.rp_disk.specs.Device.{IsPossible}
+use Rattle.rp_disk.specs.Made.{Past, history_told}
 use Rattle.rp_outcome.specs.Output.{Output, Prints, PrintsAll, PrintsPart}
 use Rattle.rp_outcome.specs.Refusals.{Refusal, disk_refusal, line_of}
 use Rattle.rp_outcome.specs.Statuses as exit
@@ -26,9 +28,9 @@ told_plan request dirs tree image files =
     and_then (planned_of request definitions.list image files) (λ planned. Ok (definitions, planned)))
 
 -- where folders, disk and sources tell, this holds of what they tell
-abbrev pub WhereTold : Store Tree → Device → Store (List Stored) → (Tree → List ℕ → List Stored → Type 0) → Type 0
-WhereTold folders disk sources P =
-    IfSome folders.told (λ tree. IfSome (history disk) (λ h. IfSome sources.told (λ files. P tree (held h) files)))
+abbrev pub WhereTold : Store Tree → Device → Device → Store (List Stored) → (Tree → List ℕ → List Stored → Type 0) → Type 0
+WhereTold folders disk later sources P = (o : Option Past) → IsPossible o later
+    → IfSome folders.told (λ tree. IfSome (history_told o disk.calls) (λ h. IfSome sources.told (λ files. P tree (held h) files)))
 
 -- a status of a refusal
 abbrev pub IsRefused : ℕ → Type 0
@@ -44,10 +46,10 @@ pub record ByStatus (request : Request) (json : Bool) (dirs : List (List ℕ)) (
   pub files : HasFileCauses folders read sources drained out after status
   pub one_of : IsRefused status ⊎ (status ≡ exit.done) ⊎ (status ≡ exit.disk) ⊎ (status ≡ exit.files) ⊎ (status ≡ exit.sink)
       ⊎ (status ≡ exit.memory)
-  pub done : status ≡ exit.done → WhereTold folders disk sources (λ tree image files.
+  pub done : status ≡ exit.done → WhereTold folders disk later sources (λ tree image files.
       IsOkAnd (told_plan request dirs tree image files) (λ told. PrintsAll out after (planned_report json told.0 told.1)))
-  pub cut : status ≡ exit.sink → WhereTold folders disk sources (λ tree image files.
+  pub cut : status ≡ exit.sink → WhereTold folders disk later sources (λ tree image files.
       IsOkAnd (told_plan request dirs tree image files) (λ told. PrintsPart out after (planned_report json told.0 told.1)))
-  pub refused : IsRefused status → WhereTold folders disk sources (λ tree image files.
+  pub refused : IsRefused status → WhereTold folders disk later sources (λ tree image files.
       IsErrAnd (told_plan request dirs tree image files) (λ refusal. (refusal.status ≡ status) × Prints out after (line_of refusal)))
   pub disk_line : status ≡ exit.disk → Prints out after (line_of disk_refusal)

@@ -1,7 +1,6 @@
 ghost use Rattle.std.specs.Prelude.{◌≡◌, ◌≤◌, ◌%◌, ◌^◌};
 ghost use Rattle.rp_base.specs.Geometry.{IsSector};
 ghost use Rattle.rp_defs.specs.WellFormed.{IsWellFormed};
-ghost use Rattle.rp_outcome.specs.Device.{device};
 ghost use Rattle.rp_outcome.specs.Output.{output};
 ghost use Rattle.rp_outcome.specs.Store.{store};
 ghost use Rattle.rp_plan_command.specs.Plans.{Plans, PlansRead, Tells};
@@ -37,7 +36,7 @@ pub fn plan<D: Disk, F: Folders, S: Sources, K: Sink>(
     requires most { request.size ≤ 2 ^ 44 }
     ensures { Plans request json dirs.now
         (store F.told F.faults F.strays folders.old) (store F.told F.faults F.strays folders.new)
-        (device D.first D.calls D.faults D.strays disk.old) (device D.first D.calls D.faults D.strays disk.new)
+        (D.device disk.old) (D.device disk.new)
         (store S.told S.faults S.strays sources.old) (store S.told S.faults S.strays sources.new)
         (output K.told K.faults out.old) (output K.told K.faults out.new) result }
 {
@@ -62,7 +61,7 @@ fn plan_read<D: Disk, S: Sources, K: Sink>(
     requires most { request.size ≤ 2 ^ 44 }
     requires list { IsWellFormed definitions.now.list }
     ensures { PlansRead request json definitions.now
-        (device D.first D.calls D.faults D.strays disk.old) (device D.first D.calls D.faults D.strays disk.new)
+        (D.device disk.old) (D.device disk.new)
         (store S.told S.faults S.strays sources.old) (store S.told S.faults S.strays sources.new)
         (output K.told K.faults out.old) (output K.told K.faults out.new) result }
 {

@@ -10,13 +10,14 @@ use Rattle.rp_defs.specs.declared.definition.Definition.{Definition}
 use Rattle.rp_demand.specs.declared.demand.Demand.{Demand}
 use Rattle.rp_demand.specs.declared.demand.Demand.TheVariants as demands
 use Rattle.rp_disk.specs.History.{History, held}
+use Rattle.rp_disk.specs.Made.{history_of}
 use Rattle.rp_gpt.specs.Accepted.{IsSeen}
 use Rattle.rp_gpt.specs.Shown.{accepted}
 use Rattle.rp_gpt.specs.declared.table_fault.Empty.{Empty}
 use Rattle.rp_gpt.specs.declared.table_fault.TableFault.{TableFault}
 use Rattle.rp_gpt.specs.declared.table_fault.TableFault.TheVariants as faults
 use Rattle.rp_outcome.specs.Demands.{demand_refusal}
-use Rattle.rp_outcome.specs.Device.{Device, IsOnlyRead, history}
+use Rattle.rp_outcome.specs.Device.{Device, IsOnlyRead, Known}
 use Rattle.rp_outcome.specs.Refusals.{Refusal, disk_refusal, repair_refusal, table_refusal}
 use Rattle.rp_outcome.specs.Store.{Store}
 use Rattle.rp_plan.specs.Goal.{goal}
@@ -80,14 +81,14 @@ kept_image before now result (inr same) = inr same
 
 -- the image was refused
 pub image_refused : (sector : ℕ) (empty : Empty) (before now : Device) (fault : TableFault) → IsOnlyRead before now
-    → IfSome (history before) (λ h. (◌≡◌ {A = Result Seen TableFault} (Err fault) (Err faults.Disk))
+    → Known before now (λ h. (◌≡◌ {A = Result Seen TableFault} (Err fault) (Err faults.Disk))
     ⊎ Gives faults.Memory (accepted sector (held h) empty) (Err fault))
     → (◌≡◌ {A = Result Seen TableFault} (Err fault) (Err faults.Disk) → Rose before.faults now.faults)
     → (◌≡◌ {A = Result Seen TableFault} (Err fault) (Err faults.Disk)) ⊎ (now.faults ≡ before.faults)
     → ReadsImage sector empty before now (Err (table_refusal fault))
 image_refused sector empty before now fault only_read answer rose kept = record {
   only_read = only_read;
-  settled = settled_image sector empty (history before) (Err fault) answer;
+  settled = λ past can. settled_image sector empty (Some (history_of past before.calls)) (Err fault) (answer past can);
   seen = tt;
   refusal = refusal_image fault;
   cause = record { failed = failed_image before.faults now.faults fault rose; kept = kept_image before.faults now.faults (Err fault) kept };
@@ -95,13 +96,13 @@ image_refused sector empty before now fault only_read answer rose kept = record 
 
 -- the image was seen
 pub image_seen : (sector : ℕ) (empty : Empty) (before now : Device) (seen : Seen) → IsOnlyRead before now
-    → IfSome (history before) (λ h. (◌≡◌ {A = Result Seen TableFault} (Ok seen) (Err faults.Disk))
+    → Known before now (λ h. (◌≡◌ {A = Result Seen TableFault} (Ok seen) (Err faults.Disk))
     ⊎ Gives faults.Memory (accepted sector (held h) empty) (Ok seen))
     → (◌≡◌ {A = Result Seen TableFault} (Ok seen) (Err faults.Disk)) ⊎ (now.faults ≡ before.faults) → IsSeen sector seen
     → ReadsImage sector empty before now (Ok seen)
 image_seen sector empty before now seen only_read answer kept is = record {
   only_read = only_read;
-  settled = settled_image sector empty (history before) (Ok seen) answer;
+  settled = λ past can. settled_image sector empty (Some (history_of past before.calls)) (Ok seen) (answer past can);
   seen = is;
   refusal = tt;
   cause = record { failed = λ e. absurd (no_err e); kept = kept_image before.faults now.faults (Ok seen) kept };

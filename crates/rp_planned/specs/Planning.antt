@@ -13,7 +13,7 @@ use Rattle.rp_gpt.specs.Shown.{accepted}
 use Rattle.rp_gpt.specs.declared.table_fault.Empty.{Empty}
 use Rattle.rp_io.specs.declared.stored.Stored.{Stored}
 use Rattle.rp_outcome.specs.Demands.{demand_refusal}
-use Rattle.rp_outcome.specs.Device.{Device, IsOnlyRead, history}
+use Rattle.rp_outcome.specs.Device.{Device, IsOnlyRead, Known}
 use Rattle.rp_outcome.specs.Refusals.{Refusal, disk_refusal, memory_refusal, repair_refusal, source_refusal, table_refusal}
 use Rattle.rp_outcome.specs.Statuses as exit
 use Rattle.rp_outcome.specs.Store.{Store}
@@ -80,7 +80,7 @@ IsImageRefusal refusal = (refusal.status ≡ exit.image) ⊎ (refusal ≡ disk_r
 -- the image on a disk was read, and nothing else was asked of the disk
 pub record ReadsImage (sector : ℕ) (empty : Empty) (before now : Device) (answer : Result Seen Refusal) : Type 0 where
   pub only_read : IsOnlyRead before now
-  pub settled : IfSome (history before) (λ h. Settles disk_refusal (seen_of sector empty (held h)) answer)
+  pub settled : Known before now (λ h. Settles disk_refusal (seen_of sector empty (held h)) answer)
   pub seen : IfOk answer (IsSeen sector)
   pub refusal : IfErr answer IsImageRefusal
   pub cause : HasStageCause disk_refusal before.faults now.faults answer

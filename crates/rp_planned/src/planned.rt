@@ -3,7 +3,6 @@ ghost use Rattle.rp_base.specs.Geometry.{IsSector};
 ghost use Rattle.rp_base.specs.Plan.{IsWellFormed as IsPlan};
 ghost use Rattle.rp_defs.specs.WellFormed.{IsWellFormed};
 ghost use Rattle.rp_gpt.specs.Accepted.{IsSeen};
-ghost use Rattle.rp_outcome.specs.Device.{device};
 ghost use Rattle.rp_outcome.specs.Refusals.{table_refusal as table_refusal_of};
 ghost use Rattle.rp_outcome.specs.Store.{store};
 ghost use Rattle.rp_planned.specs.Planning.{AsksSources, PlansBy, PlansImage, PlansUnless, ReadsImage, must_repair as must_repair_first, target_of as target_for, unplanned_refusal as refusal_of};
@@ -55,7 +54,7 @@ pub fn plan_image<D: Disk, S: Sources>(
     requires most { request.size ≤ 2 ^ 44 }
     requires list { IsWellFormed list.now }
     ensures plans { PlansImage request list.now
-        (device D.first D.calls D.faults D.strays disk.old) (device D.first D.calls D.faults D.strays disk.new)
+        (D.device disk.old) (D.device disk.new)
         (store S.told S.faults S.strays sources.old) (store S.told S.faults S.strays sources.new)
         (refused (refusal_of list.now) result) }
     ensures well_formed { IfOk result (λ planned. IsPlan planned.seen planned.plan) }
@@ -75,7 +74,7 @@ pub fn read_image<D: Disk>(
 ) -> Result<Seen, TableFault>
     requires { IsSector request.sector }
     ensures { ReadsImage request.sector request.empty
-        (device D.first D.calls D.faults D.strays disk.old) (device D.first D.calls D.faults D.strays disk.new)
+        (D.device disk.old) (D.device disk.new)
         (refused table_refusal_of result) }
 {
     match read_at(alloc, disk, request.empty, request.sector) {

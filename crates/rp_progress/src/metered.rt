@@ -25,15 +25,7 @@ impl<'a, T, R> Metered<'a, T, R> {
 }
 
 impl<D: Disk, R: Clock + Eprint> Disk for Metered<'_, D, R> {
-    ghost first = { λ it. D.first (wrapped it) };
-
-    ghost calls = { λ it. D.calls (wrapped it) };
-
-    ghost faults = { λ it. D.faults (wrapped it) };
-
-    ghost strays = { λ it. D.strays (wrapped it) };
-
-    ghost lawful = { λ it. D.lawful (wrapped it) };
+    ghost device = { λ it. D.device (wrapped it) };
 
     fn faults(&self) -> u64 {
         self.inner.faults()

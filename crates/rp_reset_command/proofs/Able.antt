@@ -9,13 +9,14 @@ use Rattle.rp_base.specs.declared.plan.Plan.{Plan}
 use Rattle.rp_base.specs.declared.seen.Seen.{Seen}
 use Rattle.rp_defs.specs.WellFormed.{IsWellFormed}
 use Rattle.rp_defs.specs.declared.definition.Definition.{Definition}
-use Rattle.rp_disk.specs.History.{History, held}
-use Rattle.rp_disk.specs.Made.{Made, history_told}
+use Rattle.rp_disk.specs.Device.{Known}
+use Rattle.rp_disk.specs.History.{held}
+use Rattle.rp_disk.specs.Made.{Made, history_of}
 use Rattle.rp_gpt.specs.Accepted.{IsSeen}
 use Rattle.rp_gpt.specs.Shown.{accepted}
 use Rattle.rp_gpt.specs.declared.table_fault.Empty.{Empty}
 use Rattle.rp_io.specs.declared.stored.Stored.{Stored}
-use Rattle.rp_outcome.specs.Device.{Device, history}
+use Rattle.rp_outcome.specs.Device.{Device}
 use Rattle.rp_outcome.specs.Refusals.{disk_refusal, source_refusal}
 use Rattle.rp_outcome.specs.Store.{Store}
 use Rattle.rp_plan.specs.Goal.{goal}
@@ -48,32 +49,29 @@ reset_named seen list (Some plan) made =
     subst (λ (p : Plan). All (NamesSource list) p.notes) (sym (reset_is seen list plan made))
     (All-map (NamesSource list) left_note (reset_table seen.shown list).rows (λ k d below. tt))
 
--- the image of a disk that tells is the one that was seen
-image_is : (request : Request) (seen : Seen) (o : Option History)
-    → IfSome o (λ h. Settles disk_refusal (seen_of request.sector request.empty (held h)) (Ok seen))
-    → IfSome o (λ h. accepted request.sector (held h) request.empty ≡ Ok seen)
-image_is request seen None settles = tt
-image_is request seen (Some h) settles = accepted_of (accepted request.sector (held h) request.empty) seen
-    (settled_ok disk_refusal (seen_of request.sector request.empty (held h)) seen settles)
+-- the image of a disk is the one that was seen
+image_is : (request : Request) (seen : Seen) (image : List ℕ) → Settles disk_refusal (seen_of request.sector request.empty image) (Ok seen)
+    → accepted request.sector image request.empty ≡ Ok seen
+image_is request seen image settles = accepted_of (accepted request.sector image request.empty) seen
+    (settled_ok disk_refusal (seen_of request.sector request.empty image) seen settles)
 
 module _ (request : Request) (list : List Definition) (seen : Seen) (of_sector : IsSector request.sector) (is : IsSeen request.sector seen) where
-  len_is : (o : Option History) → IfSome o (λ h. accepted request.sector (held h) request.empty ≡ Ok seen)
-      → IfSome o (λ h. length (held h) ≡ 512 * seen.sectors)
-  len_is None at = tt
-  len_is (Some h) at = (accepted-sized request.sector (held h) request.empty seen of_sector at).1.len
+  abbrev Shows : Device → Type 0
+  Shows disk = Known disk disk (λ h. accepted request.sector (held h) request.empty ≡ Ok seen)
 
-  reset_at : (o : Option History) (reset : Option Plan) → reset_of seen list ≡ Ok reset
-      → IfSome o (λ h. accepted request.sector (held h) request.empty ≡ Ok seen)
-      → IfSome reset (λ plan. IfSome o (λ h. (sector : ℕ) × (empty : Empty) × IsResetFor sector (held h) empty seen list plan))
-  reset_at o None made at = tt
-  reset_at None (Some plan) made at = tt
-  reset_at (Some h) (Some plan) made at = (
+  len_is : (disk : Device) → Shows disk → Known disk disk (λ h. length (held h) ≡ 512 * seen.sectors)
+  len_is disk at = λ past can. (accepted-sized request.sector (held (history_of past disk.calls)) request.empty seen of_sector (at past can)).1.len
+
+  reset_at : (disk : Device) (reset : Option Plan) → reset_of seen list ≡ Ok reset → Shows disk → IfSome reset (λ plan.
+      Known disk disk (λ h. (sector : ℕ) × (empty : Empty) × IsResetFor sector (held h) empty seen list plan))
+  reset_at disk None made at = tt
+  reset_at disk (Some plan) made at = λ past can. (
     request.sector,
     request.empty,
     record {
       plan = record {
         of_sector = of_sector;
-        seen_of = at;
+        seen_of = at past can;
         fits = reset_fits seen list plan made (is_plannable request.sector seen is);
         table_fits = reset_writes seen list plan made is.fits;
       };
@@ -87,20 +85,18 @@ same_facts known others (inl same) = cc
 same_facts known others (inr (inl e)) = absurd (cc)
 same_facts known others (inr (inr e)) = absurd (cc)
 
--- where disk and sources tell, each pair is planned with the root hash of its source
+-- where sources tell, each pair is planned with the root hash of its source
 roots_by : (request : Request) (list : List Definition) (left : Seen) (sources drained : Store (List Stored)) (planned : Planned)
     → IsSector request.sector → request.size % 4096 ≡ 0 → request.size ≤ 2 ^ 44 → IsWellFormed list → IsSeen request.sector left
-    → Aimed request list left sources drained planned → (o : Option History)
-    → IfSome o (λ h. IfSome drained.told (λ files. HavePlannedRoots planned.plan (sources_in files (paths_of list))))
-roots_by request list left sources drained planned of_sector whole most formed is aim o =
-    subst (λ (t : Option (List Stored)). IfSome o (λ h. IfSome t (λ files. HavePlannedRoots planned.plan (sources_in files (paths_of list)))))
-    (sym aim.asks.told) (by o sources.told aim.asks.settled) where
-      by : (o : Option History) (t : Option (List Stored))
-          → IfSome t (λ files. Settles source_refusal (Ok (facts request.seed files left.shown list)) (Ok aim.facts))
-          → IfSome o (λ h. IfSome t (λ files. HavePlannedRoots planned.plan (sources_in files (paths_of list))))
-      by None t settles = tt
-      by (Some h) None settles = tt
-      by (Some h) (Some files) settles =
+    → Aimed request list left sources drained planned
+    → IfSome drained.told (λ files. HavePlannedRoots planned.plan (sources_in files (paths_of list)))
+roots_by request list left sources drained planned of_sector whole most formed is aim =
+    subst (λ (t : Option (List Stored)). IfSome t (λ files. HavePlannedRoots planned.plan (sources_in files (paths_of list))))
+    (sym aim.asks.told) (by sources.told aim.asks.settled) where
+      by : (t : Option (List Stored)) → IfSome t (λ files. Settles source_refusal (Ok (facts request.seed files left.shown list)) (Ok aim.facts))
+          → IfSome t (λ files. HavePlannedRoots planned.plan (sources_in files (paths_of list)))
+      by None settles = tt
+      by (Some files) settles =
           goal_has_roots left (target_of request.size left) list files request.seed planned.plan (is_plannable request.sector left is)
           (target_of_seen request.sector request.size left is of_sector whole most) formed
           (subst (λ (fs : List Fact). goal left (target_of request.size left) list fs request.seed ≡ Ok planned.plan)
@@ -115,10 +111,9 @@ can_renew request list disk later sources drained renewal of_sector whole most f
     let is : IsSeen request.sector left = left_seen request.sector renewal.seen list renewal.reset k.reads.seen k.made in
     let repaired = no_repair request.size renewal.seen renewal.reset k.repaired in
     let aim = aimed request list left sources drained renewal.planned k.plans in
-    let at : IfSome (history later) (λ h. accepted request.sector (held h) request.empty ≡ Ok renewal.seen) =
-    subst (λ o. IfSome (history_told o later.calls) (λ h. accepted request.sector (held h) request.empty ≡ Ok renewal.seen)) (sym k.reads.only_read.first)
-    (subst (λ (l : List Made). IfSome (history_told disk.first l) (λ h. accepted request.sector (held h) request.empty ≡ Ok renewal.seen))
-    (sym k.reads.only_read.calls) (image_is request renewal.seen (history disk) k.reads.settled)) in
+    let at : Known later later (λ h. accepted request.sector (held h) request.empty ≡ Ok renewal.seen) = λ past can.
+    subst (λ (l : List Made). accepted request.sector (held (history_of past l)) request.empty ≡ Ok renewal.seen) (sym k.reads.only_read.calls)
+    (image_is request renewal.seen (held (history_of past disk.calls)) (k.reads.settled past can)) in
     record {
       formed = both;
       made = k.made;
@@ -127,7 +122,7 @@ can_renew request list disk later sources drained renewal of_sector whole most f
           (plans_blind request list left sources drained (Ok renewal.planned) is repaired k.plans) both.planned).named;
       reset_named = reset_named renewal.seen list renewal.reset k.made;
       left = aim.same;
-      len = len_is request list renewal.seen of_sector k.reads.seen (history later) at;
-      image = reset_at request list renewal.seen of_sector k.reads.seen (history later) renewal.reset k.made at;
-      roots = roots_by request list left sources drained renewal.planned of_sector whole most formed is aim (history later);
+      len = len_is request list renewal.seen of_sector k.reads.seen later at;
+      image = reset_at request list renewal.seen of_sector k.reads.seen later renewal.reset k.made at;
+      roots = λ past can. roots_by request list left sources drained renewal.planned of_sector whole most formed is aim;
     }

@@ -14,13 +14,15 @@ use Rattle.rp_base.specs.declared.seen.Seen.{Seen}
 use Rattle.rp_base.specs.declared.table.Row.{Row}
 use Rattle.rp_defs.specs.declared.definition.Definition.{Definition}
 use Rattle.rp_defs.specs.declared.definition.Definitions.{Definitions}
+use Rattle.rp_disk.specs.Device.{Earlier, Known}
 use Rattle.rp_disk.specs.History.{History, held}
-use Rattle.rp_disk.specs.Made.{Made, dones, history_of, history_told}
+use Rattle.rp_disk.specs.Made.{Made, Past, dones, history_of}
 use Rattle.rp_disk.specs.declared.call.Call.{Call}
+use Rattle.rp_disk.proofs.Noting.{can_before}
 use Rattle.rp_disk.proofs.Runs.{held-all_did, history_of-dones}
 use Rattle.rp_gpt.specs.declared.table_fault.Empty.{Empty}
 use Rattle.rp_io.specs.declared.stored.Stored.{Stored}
-use Rattle.rp_outcome.specs.Device.{Device, history}
+use Rattle.rp_outcome.specs.Device.{Device}
 use Rattle.rp_outcome.specs.Store.{Store}
 use Rattle.rp_reset.proofs.Public.{all_same, reset_is}
 use Rattle.rp_reset.specs.Reset.{left_note, reset as reset_of, reset_table}
@@ -86,57 +88,43 @@ module _ (seen : Seen) (list : List Definition) (reset : Plan) (made : reset_of 
     plain_roots plan sources (row ∷ rows) =
         All-cons (λ (noted : Noted). HasPlannedRoot plan sources noted.1.role) _ _ tt (plain_roots plan sources rows)
 
--- a disk that tells has as many bytes behind the reset as before
+-- a disk has as many bytes behind the reset as before
 module _ (list : List Definition) (renewal : Renewal) (reset : Plan) (disk middle : Device) (sources between : Store (List Stored))
-    (is : renewal.reset ≡ Some reset) (can : CanRenew list renewal disk sources) (first : middle.first ≡ disk.first) where
+    (is : renewal.reset ≡ Some reset) (can : CanRenew list renewal disk sources) where
   left_is : renewal.planned.seen ≡ seen_after renewal.seen reset
   left_is = can.left ∙ ap (seen_left renewal.seen) is
 
-  abbrev ResetAt : Option History → Type 0
-  ResetAt o = IfSome o (λ h. (sector : ℕ) × (empty : Empty) × IsResetFor sector (held h) empty renewal.seen list reset)
+  abbrev ResetAt : History → Type 0
+  ResetAt h = (sector : ℕ) × (empty : Empty) × IsResetFor sector (held h) empty renewal.seen list reset
 
-  abbrev LongAt : Option History → Type 0
-  LongAt o = IfSome o (λ h. length (held h) ≡ 512 * renewal.planned.seen.sectors)
-
-  image_is : ResetAt (history disk)
-  image_is = subst (λ (r : Option Plan). IfSome r (λ plan. IfSome (history disk) (λ h.
+  image_is : Known disk disk ResetAt
+  image_is = subst (λ (r : Option Plan). IfSome r (λ plan. Known disk disk (λ h.
       (sector : ℕ) × (empty : Empty) × IsResetFor sector (held h) empty renewal.seen list plan))) is can.image
 
-  long_by : (bytes : List ℕ) (calls : List Call) → AreCallsFor renewal.seen reset calls → middle.calls ≡ disk.calls ++ dones calls
-      → ResetAt (history_told (Some bytes) disk.calls) → LongAt (history_told (Some bytes) middle.calls)
-  long_by bytes calls are made (sector, empty, for) =
-      let old = held (history_of bytes disk.calls) in
+  long_by : (past : Past) (calls : List Call) → AreCallsFor renewal.seen reset calls → middle.calls ≡ disk.calls ++ dones calls
+      → ResetAt (history_of past disk.calls) → length (held (history_of past middle.calls)) ≡ 512 * renewal.planned.seen.sectors
+  long_by past calls are made (sector, empty, for) =
+      let old = held (history_of past disk.calls) in
       let calls_are : AreCallsOf renewal.seen reset [] calls =
       reset_calls renewal.seen list reset for.reset_is calls for.plan.fits.well_formed are in
-      ap (λ (l : List Made). length (held (history_of bytes l))) made
-      ∙ ap (λ (h : History). length (held h)) (history_of-dones bytes disk.calls calls)
-      ∙ ap length (held-all_did (history_of bytes disk.calls) calls)
+      ap (λ (l : List Made). length (held (history_of past l))) made
+      ∙ ap (λ (h : History). length (held h)) (history_of-dones past disk.calls calls)
+      ∙ ap length (held-all_did (history_of past disk.calls) calls)
       ∙ middle_length sector old empty renewal.seen list reset for calls calls_are
       ∙ old_length sector old empty renewal.seen list reset for
       ∙ ap (λ n. 512 * n) (sym (ap (λ (s : Seen). s.sectors) left_is ∙ own_length sector old empty renewal.seen list reset for))
 
-  pub length_between : (definitions : Definitions) (calls : List Call)
-      → CarriesOut definitions (with_reset renewal reset) disk middle sources between calls (Ok tt) → HasSeenLength renewal.planned middle
-  length_between definitions calls carries =
-      subst (λ (o : Option (List ℕ)). LongAt (history_told o middle.calls)) (sym first)
-      (by disk.first image_is) where
-        by : (o : Option (List ℕ)) → ResetAt (history_told o disk.calls) → LongAt (history_told o middle.calls)
-        by None at = tt
-        by (Some bytes) at = long_by bytes calls carries.are carries.ran.ok at
-
-  abbrev RootsAt : Option History → Option (List Stored) → Type 0
-  RootsAt o t = IfSome o (λ h. IfSome t (λ files. HavePlannedRoots renewal.planned.plan (sources_in files (paths_of list))))
+  pub length_between : (definitions : Definitions) → CarriesOut definitions (with_reset renewal reset) disk middle sources between (Ok tt)
+      → HasSeenLength renewal.planned middle
+  length_between definitions carries = λ past possible.
+      let made = carries.runs (Some past) possible in
+      long_by past made.0 made.1.are made.1.ran.ok (image_is past (can_before carries.earlier possible))
 
   -- and what is planned behind it has the root hashes of its sources
-  pub roots_between : between.told ≡ sources.told → HasToldRoots list renewal.planned middle between
-  roots_between told =
-      subst (λ (t : Option (List Stored)). RootsAt (history middle) t) (sym told)
-      (subst (λ (o : Option (List ℕ)). RootsAt (history_told o middle.calls) sources.told) (sym first)
-      (by disk.first sources.told can.roots)) where
-        by : (o : Option (List ℕ)) (t : Option (List Stored)) → RootsAt (history_told o disk.calls) t → RootsAt (history_told o middle.calls) t
-        by None t roots = tt
-        by (Some bytes) None roots = tt
-        by (Some bytes) (Some files) roots = roots
+  pub roots_between : Earlier disk middle → between.told ≡ sources.told → HasToldRoots list renewal.planned middle between
+  roots_between earlier told = λ past possible.
+      subst (λ (t : Option (List Stored)). IfSome t (λ files. HavePlannedRoots renewal.planned.plan (sources_in files (paths_of list))))
+      (sym told) (can.roots past (can_before earlier possible))
 
 -- what the reset needs itself
 pub first_length : (list : List Definition) (renewal : Renewal) (reset : Plan) (disk : Device) (sources : Store (List Stored))
@@ -145,15 +133,13 @@ first_length list renewal reset disk sources can = can.len
 
 pub first_roots : (list : List Definition) (renewal : Renewal) (reset : Plan) (disk : Device) (sources : Store (List Stored))
     → renewal.reset ≡ Some reset → reset_of renewal.seen list ≡ Ok renewal.reset → HasToldRoots list (with_reset renewal reset) disk sources
-first_roots list renewal reset disk sources is made = by (history disk) sources.told where
-  by : (o : Option History) (t : Option (List Stored))
-      → IfSome o (λ h. IfSome t (λ files. HavePlannedRoots reset (sources_in files (paths_of list))))
-  by None t = tt
-  by (Some h) None = tt
-  by (Some h) (Some files) = reset_roots renewal.seen list reset (made ∙ ap (λ (r : Option Plan). Ok r) is) (sources_in files (paths_of list))
+first_roots list renewal reset disk sources is made = λ past can. by sources.told where
+  by : (t : Option (List Stored)) → IfSome t (λ files. HavePlannedRoots reset (sources_in files (paths_of list)))
+  by None = tt
+  by (Some files) = reset_roots renewal.seen list reset (made ∙ ap (λ (r : Option Plan). Ok r) is) (sources_in files (paths_of list))
 
 -- where no row is taken out, what was seen is planned for
 pub alone_length : (list : List Definition) (renewal : Renewal) (disk : Device) (sources : Store (List Stored)) → renewal.reset ≡ None
     → CanRenew list renewal disk sources → HasSeenLength renewal.planned disk
 alone_length list renewal disk sources is can =
-    subst (λ (s : Seen). IfSome (history disk) (λ h. length (held h) ≡ 512 * s.sectors)) (sym (can.left ∙ ap (seen_left renewal.seen) is)) can.len
+    subst (λ (s : Seen). Known disk disk (λ h. length (held h) ≡ 512 * s.sectors)) (sym (can.left ∙ ap (seen_left renewal.seen) is)) can.len

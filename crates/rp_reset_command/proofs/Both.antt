@@ -1,10 +1,9 @@
 -- Both plans of a reset, one behind the other.
-use Rattle.std.proofs.Common.{◌≡◌, ◌∙◌, ◌++◌, List, [], Some, Result, Ok, Err, refl, ap}
+use Rattle.std.proofs.Common.{◌≡◌, ◌∙◌, List, Some, Result, Ok, Err, refl, ap}
 use Rattle.rp_apply.specs.Ready.{IsReadyFor}
 use Rattle.rp_apply.specs.declared.ready.Ready.{Ready}
 use Rattle.rp_base.specs.declared.plan.Plan.{Plan}
 use Rattle.rp_defs.specs.declared.definition.Definitions.{Definitions}
-use Rattle.rp_disk.specs.declared.call.Call.{Call}
 use Rattle.rp_io.specs.declared.stored.Stored.{Stored}
 use Rattle.rp_outcome.specs.Device.{Device}
 use Rattle.rp_outcome.specs.Refusals.{Refusal}
@@ -39,54 +38,39 @@ fault_is result fault is = ap carried.outcome_of is ∙ ap (λ (r : Refusal). Er
 abbrev pub CarriesAny : Ready → Device → Device → Store (List Stored) → Store (List Stored) → Outcome → Type 0
 CarriesAny ready disk later sources drained answer =
     (definitions : Definitions) (planned : Planned) → IsReadyFor planned.plan planned.seen definitions.list ready → HasSeenLength planned disk
-    → HasToldRoots definitions.list planned disk sources
-    → (calls : List Call) × CarriesOut definitions planned disk later sources drained calls answer
+    → HasToldRoots definitions.list planned disk sources → CarriesOut definitions planned disk later sources drained answer
 
 module _ (first second : Ready) (disk middle : Device) (sources between : Store (List Stored)) (definitions : Definitions) (renewal : Renewal)
     (reset : Plan) (is_first : IsReadyFor reset renewal.seen definitions.list first)
     (is_second : IsReadyFor renewal.planned.plan renewal.planned.seen definitions.list second) (is : renewal.reset ≡ Some reset)
     (can : CanRenew definitions.list renewal disk sources) where
   resets : (answer : Outcome) → CarriesAny first disk middle sources between answer
-      → (calls : List Call) × CarriesOut definitions (with_reset renewal reset) disk middle sources between calls answer
+      → CarriesOut definitions (with_reset renewal reset) disk middle sources between answer
   resets answer carries = carries definitions (with_reset renewal reset) is_first (first_length definitions.list renewal reset disk sources can)
       (first_roots definitions.list renewal reset disk sources is can.made)
 
   -- the reset was carried out, and then the plan behind it as far as it went
   pub both_carried : (later : Device) (drained : Store (List Stored)) (answer : Outcome) → CarriesAny first disk middle sources between (Ok tt)
       → CarriesAny second middle later between drained answer
-      → (calls : List Call) × CarriesBoth definitions renewal reset disk later sources drained calls answer
+      → CarriesBoth definitions renewal reset disk later sources drained answer
   both_carried later drained answer carries goes_on =
-      let f = resets (Ok tt) carries in
-      let s = goes_on definitions renewal.planned is_second
-      (length_between definitions.list renewal reset disk middle sources between is can f.1.first definitions f.0 f.1)
-      (roots_between definitions.list renewal reset disk middle sources between is can f.1.first f.1.told) in (
-        f.0 ++ s.0,
-        record {
-          before = f.0;
-          behind = s.0;
-          middle = middle;
-          between = between;
-          outcome = Ok tt;
-          calls_are = refl;
-          resets = f.1;
-          goes_on = s.1;
-        },
-      )
+      let f = resets (Ok tt) carries in record {
+        middle = middle;
+        between = between;
+        outcome = Ok tt;
+        resets = f;
+        goes_on = goes_on definitions renewal.planned is_second
+            (length_between definitions.list renewal reset disk middle sources between is can definitions f)
+            (roots_between definitions.list renewal reset disk middle sources between is can f.earlier f.told);
+      }
 
   -- the reset was broken off
   pub first_broken : (refusal : Refusal) → CarriesAny first disk middle sources between (Err refusal)
-      → (calls : List Call) × CarriesBoth definitions renewal reset disk middle sources between calls (Err refusal)
-  first_broken refusal carries =
-      let f = resets (Err refusal) carries in (
-        f.0 ++ [],
-        record {
-          before = f.0;
-          behind = [];
-          middle = middle;
-          between = between;
-          outcome = Err refusal;
-          calls_are = refl;
-          resets = f.1;
-          goes_on = (refl, refl, refl, refl);
-        },
-      )
+      → CarriesBoth definitions renewal reset disk middle sources between (Err refusal)
+  first_broken refusal carries = record {
+    middle = middle;
+    between = between;
+    outcome = Err refusal;
+    resets = resets (Err refusal) carries;
+    goes_on = (refl, refl, refl);
+  }

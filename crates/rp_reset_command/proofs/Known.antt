@@ -1,9 +1,12 @@
 -- What is known where there is a plan behind a reset.
-use Rattle.std.proofs.Common.{◌≡◌, Bool, true, false, List, [], Option, None, Result, Ok, Err, refl, sym, subst, inl, inr}
+use Rattle.std.proofs.Common.{◌≡◌, Bool, true, false, List, [], ◌∷◌, Option, Result, Ok, Err, refl, sym, subst, inl, inr, arith}
 use Rattle.rp_base.specs.declared.plan.Plan.{Plan}
 use Rattle.rp_base.specs.declared.seen.Seen.{Seen}
 use Rattle.rp_defs.specs.declared.definition.Definition.{Definition}
 use Rattle.rp_demand.specs.declared.demand.Demand.{Demand}
+use Rattle.rp_disk.specs.Device.{CanHave, Measured}
+use Rattle.rp_disk.specs.Made.{Past}
+use Rattle.rp_disk.proofs.Noting.{earlier_same}
 use Rattle.rp_io.specs.declared.stored.Stored.{Stored}
 use Rattle.rp_outcome.specs.Demands.{demand_refusal}
 use Rattle.rp_outcome.specs.Device.{Device}
@@ -96,15 +99,18 @@ module _ (request : Request) (list : List Definition) (left : Seen) (sources dra
   pub aimed : PlansUnless false request list left sources drained (Ok planned) → Aimed request list left sources drained planned
   aimed plans = by_facts plans.0 plans.1 plans.2
 
--- a disk that tells nothing, and of which nothing was asked
+-- a disk whose answers are those of no past
 abbrev pub blind : Device
-blind = record { first = None; calls = []; faults = 0; strays = 0 }
+blind = record { calls = []; answers = Measured [] 0 ∷ Measured [] 1 ∷ []; faults = 0 }
+
+not_blind : (past : Past) → CanHave past blind → ⊥
+not_blind past can = let none = can.answers.0 in let one = can.answers.1.0 in omega (arith, none, one)
 
 -- what is seen of an image might have been read from it
 pub seen_blind : (request : Request) (left : Seen) → IsSeen request.sector left → ReadsImage request.sector request.empty blind blind (Ok left)
 seen_blind request left is = record {
-  only_read = record { first = refl; calls = refl; strays = tt };
-  settled = tt;
+  only_read = record { calls = refl; earlier = earlier_same blind; inside = λ past can. refl };
+  settled = λ past can. absurd (not_blind past can);
   seen = is;
   refusal = tt;
   cause = record { failed = λ e. absurd (no_err left disk_refusal e); kept = inr refl };

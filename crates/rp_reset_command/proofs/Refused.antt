@@ -102,9 +102,3 @@ module _ (request : Request) (list : List Definition) (disk later : Device) (sou
   -- where nothing is planned, the refusal has the status of its cause
   pub none_renewed : RenewsImage request list disk later sources drained (Err refusal) → IsRefused refusal
   none_renewed renews = by_seen renews.0 renews.1 renews.2
-
--- planning makes no call that changes the disk, and changes nothing that it tells
-pub only_read : (request : Request) (list : List Definition) (disk later : Device) (sources drained : Store (List Stored))
-    (answer : Result Renewal Refusal) → RenewsImage request list disk later sources drained answer
-    → (later.first ≡ disk.first) × (later.calls ≡ disk.calls)
-only_read request list disk later sources drained answer renews = (renews.1.only_read.first, renews.1.only_read.calls)

@@ -32,33 +32,28 @@ abbrev pub outcome_of : Result (Unit {0}) ApplyFault → Outcome
 outcome_of result = refused fault_refusal result
 
 -- the second plan is carried out, where the first was; else no call of it is made
-abbrev pub GoesOn : Definitions → Planned → Device → Device → Store (List Stored) → Store (List Stored) → List Call
-    → Outcome → Outcome → Type 0
-GoesOn definitions planned disk later sources drained calls (Err refusal) answer =
-    (later ≡ disk) × (drained ≡ sources) × (calls ≡ []) × (answer ≡ Err refusal)
-GoesOn definitions planned disk later sources drained calls (Ok done) answer =
-    CarriesOut definitions planned disk later sources drained calls answer
+abbrev pub GoesOn : Definitions → Planned → Device → Device → Store (List Stored) → Store (List Stored) → Outcome → Outcome → Type 0
+GoesOn definitions planned disk later sources drained (Err refusal) answer =
+    (later ≡ disk) × (drained ≡ sources) × (answer ≡ Err refusal)
+GoesOn definitions planned disk later sources drained (Ok done) answer =
+    CarriesOut definitions planned disk later sources drained answer
 
--- the plan of the reset is carried out, and then the one behind it: these calls, those of the first plan before those of the second
+-- the plan of the reset is carried out, and then the one behind it
 pub record CarriesBoth (definitions : Definitions) (renewal : Renewal) (reset : Plan) (disk later : Device)
-    (sources drained : Store (List Stored))
-    (calls : List Call) (answer : Outcome) : Type 0 where
-  pub before : List Call
-  pub behind : List Call
+    (sources drained : Store (List Stored)) (answer : Outcome) : Type 0 where
   pub middle : Device
   pub between : Store (List Stored)
   pub outcome : Outcome
-  pub calls_are : calls ≡ before ++ behind
-  pub resets : CarriesOut definitions (with_reset renewal reset) disk middle sources between before outcome
-  pub goes_on : GoesOn definitions renewal.planned middle later between drained behind outcome answer
+  pub resets : CarriesOut definitions (with_reset renewal reset) disk middle sources between outcome
+  pub goes_on : GoesOn definitions renewal.planned middle later between drained outcome answer
 
 -- where no row is taken out, there is one plan alone
-abbrev pub CarriesRenewal : Definitions → Renewal → Option Plan → Device → Device → Store (List Stored) → Store (List Stored) → List Call
+abbrev pub CarriesRenewal : Definitions → Renewal → Option Plan → Device → Device → Store (List Stored) → Store (List Stored)
     → Outcome → Type 0
-CarriesRenewal definitions renewal None disk later sources drained calls answer =
-    CarriesOut definitions renewal.planned disk later sources drained calls answer
-CarriesRenewal definitions renewal (Some reset) disk later sources drained calls answer =
-    CarriesBoth definitions renewal reset disk later sources drained calls answer
+CarriesRenewal definitions renewal None disk later sources drained answer =
+    CarriesOut definitions renewal.planned disk later sources drained answer
+CarriesRenewal definitions renewal (Some reset) disk later sources drained answer =
+    CarriesBoth definitions renewal reset disk later sources drained answer
 
 -- what was carried out is told, as far as the sink takes it; or the refusal is
 abbrev pub TellsApplied : Bool → Definitions → Renewal → Output → Output → ℕ → Outcome → Type 0
@@ -67,47 +62,42 @@ TellsApplied json definitions renewal out after status (Err refusal) = Refuses o
 
 -- the memory for carrying out and for the text was there, and it was carried out
 abbrev pub Commits : Bool → Definitions → Renewal → Device → Device → Store (List Stored) → Store (List Stored) → Output → Output → ℕ
-    → List Call → Type 0
-Commits json definitions renewal disk later sources drained out after status calls =
-    (answer : Outcome) × CarriesRenewal definitions renewal renewal.reset disk later sources drained calls answer
+    → Type 0
+Commits json definitions renewal disk later sources drained out after status =
+    (answer : Outcome) × CarriesRenewal definitions renewal renewal.reset disk later sources drained answer
     × TellsApplied json definitions renewal out after status answer
 
 -- what is planned is carried out, unless there was no memory for it
 abbrev pub AppliesPlanned : Bool → Definitions → Device → Device → Store (List Stored) → Store (List Stored) → Output → Output → ℕ
-    → List Call → Result Renewal Refusal → Type 0
-AppliesPlanned json definitions disk later sources drained out after status calls (Err refusal) =
-    EndsHere disk later sources drained out after status refusal calls
-AppliesPlanned json definitions disk later sources drained out after status calls (Ok renewal) =
-    EndsHere disk later sources drained out after status memory_refusal calls
-    ⊎ Commits json definitions renewal disk later sources drained out after status calls
+    → Result Renewal Refusal → Type 0
+AppliesPlanned json definitions disk later sources drained out after status (Err refusal) =
+    EndsHere disk later sources drained out after status refusal
+AppliesPlanned json definitions disk later sources drained out after status (Ok renewal) =
+    EndsHere disk later sources drained out after status memory_refusal
+    ⊎ Commits json definitions renewal disk later sources drained out after status
 
 -- it is planned for the image, once the disk was synced
 abbrev pub AppliesOpened : Request → Bool → Definitions → Device → Device → Store (List Stored) → Store (List Stored) → Output → Output
-    → ℕ → List Call → Outcome → Type 0
-AppliesOpened request json definitions disk later sources drained out after status calls (Err refusal) =
-    EndsHere disk later sources drained out after status refusal calls
-AppliesOpened request json definitions disk later sources drained out after status calls (Ok done) =
+    → ℕ → Outcome → Type 0
+AppliesOpened request json definitions disk later sources drained out after status (Err refusal) =
+    EndsHere disk later sources drained out after status refusal
+AppliesOpened request json definitions disk later sources drained out after status (Ok done) =
     (read : Device) × (asked : Store (List Stored)) × (answer : Result Renewal Refusal)
     × RenewsImage request definitions.list disk read sources asked answer × IfOk answer (λ renewal. PlanFits renewal.planned)
-    × AppliesPlanned json definitions read later asked drained out after status calls answer
+    × AppliesPlanned json definitions read later asked drained out after status answer
 
 -- the disk is synced, once definitions were read
 abbrev pub AppliesBehind : Request → Bool → Device → Device → Store (List Stored) → Store (List Stored) → Output → Output → ℕ
-    → List Call → Result Definitions Refusal → Type 0
-AppliesBehind request json disk later sources drained out after status calls (Err refusal) =
-    EndsHere disk later sources drained out after status refusal calls
-AppliesBehind request json disk later sources drained out after status calls (Ok definitions) =
+    → Result Definitions Refusal → Type 0
+AppliesBehind request json disk later sources drained out after status (Err refusal) =
+    EndsHere disk later sources drained out after status refusal
+AppliesBehind request json disk later sources drained out after status (Ok definitions) =
     (opened : Device) × (answer : Outcome) × Opens disk opened answer
-    × AppliesOpened request json definitions opened later sources drained out after status calls answer
+    × AppliesOpened request json definitions opened later sources drained out after status answer
 
--- the definitions are read, the disk is synced, it is planned, carried out and told; behind the sync these calls were to be made
-abbrev pub AppliesBy : Request → Bool → List (List ℕ) → Store Tree → Store Tree → Device → Device → Store (List Stored)
-    → Store (List Stored) → Output → Output → ℕ → List Call → Type 0
-AppliesBy request json dirs folders read disk later sources drained out after status calls =
-    (definitions : Result Definitions Refusal) × ReadsDefinitions request.arch dirs folders read definitions
-    × AppliesBehind request json disk later sources drained out after status calls definitions
-
+-- the definitions are read, the disk is synced, it is planned, carried out and told
 abbrev pub AppliesReset : Request → Bool → List (List ℕ) → Store Tree → Store Tree → Device → Device → Store (List Stored)
     → Store (List Stored) → Output → Output → ℕ → Type 0
 AppliesReset request json dirs folders read disk later sources drained out after status =
-    (calls : List Call) × AppliesBy request json dirs folders read disk later sources drained out after status calls
+    (definitions : Result Definitions Refusal) × ReadsDefinitions request.arch dirs folders read definitions
+    × AppliesBehind request json disk later sources drained out after status definitions

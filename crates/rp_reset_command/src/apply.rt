@@ -1,12 +1,10 @@
-ghost use Rattle.std.specs.Prelude.{◌≡◌, ◌≤◌, ◌%◌, ◌^◌, All, Bool, IfOk, List, None, Ok, Some, length, true};
+ghost use Rattle.std.specs.Prelude.{◌≡◌, ◌≤◌, ◌%◌, ◌^◌, All, Bool, IfOk, None, Ok, Some, length, true};
 ghost use Rattle.rp_apply.specs.Ready.{IsReady, IsReadyFor};
 ghost use Rattle.rp_apply.specs.Sourced.{NamesSource};
 ghost use Rattle.rp_apply_command.specs.Applies.{PlanFits};
 ghost use Rattle.rp_base.specs.Geometry.{IsSector};
 ghost use Rattle.rp_defs.specs.WellFormed.{IsWellFormed};
 ghost use Rattle.rp_defs.specs.declared.definition.Definitions.{Definitions as Defined};
-ghost use Rattle.rp_disk.specs.declared.call.Call.{Call};
-ghost use Rattle.rp_outcome.specs.Device.{device};
 ghost use Rattle.rp_outcome.specs.Output.{output};
 ghost use Rattle.rp_outcome.specs.Store.{store};
 ghost use Rattle.rp_reset_command.specs.Applies.{AppliesOpened, AppliesPlanned, AppliesReset, TellsApplied, outcome_of};
@@ -50,7 +48,7 @@ pub fn apply_reset<D: Disk, F: Folders, S: Sources, K: Sink>(
     requires most { request.size ≤ 2 ^ 44 }
     ensures { AppliesReset request json dirs.now
         (store F.told F.faults F.strays folders.old) (store F.told F.faults F.strays folders.new)
-        (device D.first D.calls D.faults D.strays disk.old) (device D.first D.calls D.faults D.strays disk.new)
+        (D.device disk.old) (D.device disk.new)
         (store S.told S.faults S.strays sources.old) (store S.told S.faults S.strays sources.new)
         (output K.told K.faults out.old) (output K.told K.faults out.new) result }
 {
@@ -78,10 +76,10 @@ fn apply_opened<D: Disk, S: Sources, K: Sink>(
     requires whole { request.size % 4096 ≡ 0 }
     requires most { request.size ≤ 2 ^ 44 }
     requires list { IsWellFormed definitions.now.list }
-    ensures { (calls : List Call) × AppliesOpened request json definitions.now
-        (device D.first D.calls D.faults D.strays disk.old) (device D.first D.calls D.faults D.strays disk.new)
+    ensures { AppliesOpened request json definitions.now
+        (D.device disk.old) (D.device disk.new)
         (store S.told S.faults S.strays sources.old) (store S.told S.faults S.strays sources.new)
-        (output K.told K.faults out.old) (output K.told K.faults out.new) result calls (Ok tt) }
+        (output K.told K.faults out.old) (output K.told K.faults out.new) result (Ok tt) }
 {
     let list = definitions.list.as_slice();
     match plan_renewal(alloc, request, list, disk, sources) {
@@ -102,12 +100,12 @@ fn apply_planned<D: Disk, S: Sources, K: Sink>(
 ) -> u8
     requires list { length definitions.now.list ≤ 256 }
     requires can { CanRenew definitions.now.list renewal.now
-        (device D.first D.calls D.faults D.strays disk.old) (store S.told S.faults S.strays sources.old) }
+        (D.device disk.old) (store S.told S.faults S.strays sources.old) }
     ensures fits { PlanFits renewal.now.planned }
-    ensures applies { (calls : List Call) × AppliesPlanned json definitions.now
-        (device D.first D.calls D.faults D.strays disk.old) (device D.first D.calls D.faults D.strays disk.new)
+    ensures applies { AppliesPlanned json definitions.now
+        (D.device disk.old) (D.device disk.new)
         (store S.told S.faults S.strays sources.old) (store S.told S.faults S.strays sources.new)
-        (output K.told K.faults out.old) (output K.told K.faults out.new) result calls (Ok renewal.now) }
+        (output K.told K.faults out.old) (output K.told K.faults out.new) result (Ok renewal.now) }
 {
     plan_fits(&renewal.planned.plan);
     match &renewal.reset {
@@ -129,11 +127,11 @@ fn apply_alone<D: Disk, S: Sources, K: Sink>(
     requires list { length definitions.now.list ≤ 256 }
     requires none { renewal.now.reset ≡ None }
     requires can { CanRenew definitions.now.list renewal.now
-        (device D.first D.calls D.faults D.strays disk.old) (store S.told S.faults S.strays sources.old) }
-    ensures { (calls : List Call) × AppliesPlanned json definitions.now
-        (device D.first D.calls D.faults D.strays disk.old) (device D.first D.calls D.faults D.strays disk.new)
+        (D.device disk.old) (store S.told S.faults S.strays sources.old) }
+    ensures { AppliesPlanned json definitions.now
+        (D.device disk.old) (D.device disk.new)
         (store S.told S.faults S.strays sources.old) (store S.told S.faults S.strays sources.new)
-        (output K.told K.faults out.old) (output K.told K.faults out.new) result calls (Ok renewal.now) }
+        (output K.told K.faults out.old) (output K.told K.faults out.new) result (Ok renewal.now) }
 {
     match prepared(alloc, json, definitions, renewal) {
         Ok((ready, text)) => {
@@ -157,11 +155,11 @@ fn apply_both<D: Disk, S: Sources, K: Sink>(
     requires list { length definitions.now.list ≤ 256 }
     requires some { renewal.now.reset ≡ Some reset.now }
     requires can { CanRenew definitions.now.list renewal.now
-        (device D.first D.calls D.faults D.strays disk.old) (store S.told S.faults S.strays sources.old) }
-    ensures { (calls : List Call) × AppliesPlanned json definitions.now
-        (device D.first D.calls D.faults D.strays disk.old) (device D.first D.calls D.faults D.strays disk.new)
+        (D.device disk.old) (store S.told S.faults S.strays sources.old) }
+    ensures { AppliesPlanned json definitions.now
+        (D.device disk.old) (D.device disk.new)
         (store S.told S.faults S.strays sources.old) (store S.told S.faults S.strays sources.new)
-        (output K.told K.faults out.old) (output K.told K.faults out.new) result calls (Ok renewal.now) }
+        (output K.told K.faults out.old) (output K.told K.faults out.new) result (Ok renewal.now) }
 {
     match prepared_both(alloc, json, definitions, renewal, reset) {
         Ok((first, second, text)) => {

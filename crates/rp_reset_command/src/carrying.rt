@@ -1,13 +1,11 @@
 //! Both plans of a factory reset are carried out.
 
-ghost use Rattle.std.specs.Prelude.{◌≡◌, List, Some};
+ghost use Rattle.std.specs.Prelude.{◌≡◌, Some};
 ghost use Rattle.rp_apply.specs.Ready.{IsReady, IsReadyFor};
 ghost use Rattle.rp_apply_command.specs.Applies.{CarriesOut};
 ghost use Rattle.rp_apply_command.specs.Carrying.{HasSeenLength, HasToldRoots};
 ghost use Rattle.rp_base.specs.declared.plan.Plan.{Plan as Aim};
 ghost use Rattle.rp_defs.specs.declared.definition.Definitions.{Definitions as Defined};
-ghost use Rattle.rp_disk.specs.declared.call.Call.{Call};
-ghost use Rattle.rp_outcome.specs.Device.{device};
 ghost use Rattle.rp_outcome.specs.Store.{store};
 ghost use Rattle.rp_planned.specs.declared.planned.Planned.{Planned as Planning};
 ghost use Rattle.rp_reset_command.specs.Applies.{CarriesBoth, outcome_of};
@@ -26,12 +24,12 @@ pub(crate) fn carry_out<D: Disk, S: Sources>(
 ) -> Result<(), ApplyFault>
     requires { IsReady ready }
     ensures { (definitions : Defined) (planned : Planning) → IsReadyFor planned.plan planned.seen definitions.list ready
-        → HasSeenLength planned (device D.first D.calls D.faults D.strays disk.old)
+        → HasSeenLength planned (D.device disk.old)
         → HasToldRoots definitions.list planned
-        (device D.first D.calls D.faults D.strays disk.old) (store S.told S.faults S.strays sources.old)
-        → (calls : List Call) × CarriesOut definitions planned
-        (device D.first D.calls D.faults D.strays disk.old) (device D.first D.calls D.faults D.strays disk.new)
-        (store S.told S.faults S.strays sources.old) (store S.told S.faults S.strays sources.new) calls (outcome_of result) }
+        (D.device disk.old) (store S.told S.faults S.strays sources.old)
+        → CarriesOut definitions planned
+        (D.device disk.old) (D.device disk.new)
+        (store S.told S.faults S.strays sources.old) (store S.told S.faults S.strays sources.new) (outcome_of result) }
 {
     match commit(ready, disk, sources) {
         Ok(_) => Ok(()),
@@ -51,10 +49,10 @@ pub(crate) fn carry_out_both<D: Disk, S: Sources>(
     ensures { (definitions : Defined) (renewal : Aims) (reset : Aim) → IsReadyFor reset renewal.seen definitions.list first
         → IsReadyFor renewal.planned.plan renewal.planned.seen definitions.list second → renewal.reset ≡ Some reset
         → CanRenew definitions.list renewal
-        (device D.first D.calls D.faults D.strays disk.old) (store S.told S.faults S.strays sources.old)
-        → (calls : List Call) × CarriesBoth definitions renewal reset
-        (device D.first D.calls D.faults D.strays disk.old) (device D.first D.calls D.faults D.strays disk.new)
-        (store S.told S.faults S.strays sources.old) (store S.told S.faults S.strays sources.new) calls (outcome_of result) }
+        (D.device disk.old) (store S.told S.faults S.strays sources.old)
+        → CarriesBoth definitions renewal reset
+        (D.device disk.old) (D.device disk.new)
+        (store S.told S.faults S.strays sources.old) (store S.told S.faults S.strays sources.new) (outcome_of result) }
 {
     match carry_out(first, disk, sources) {
         Ok(()) => carry_out(second, disk, sources),

@@ -4,7 +4,6 @@ ghost use Rattle.std.specs.Prelude.{◌≡◌, ◌≤◌, ◌%◌, ◌^◌, IfOk
 ghost use Rattle.rp_base.specs.Geometry.{IsSector};
 ghost use Rattle.rp_defs.specs.WellFormed.{IsWellFormed};
 ghost use Rattle.rp_gpt.specs.Accepted.{IsSeen};
-ghost use Rattle.rp_outcome.specs.Device.{device};
 ghost use Rattle.rp_outcome.specs.Store.{store};
 ghost use Rattle.rp_planned.specs.Planning.{must_repair as must_repair_first, unplanned_refusal as refusal_of};
 ghost use Rattle.rp_reading.specs.Stages.{refused};
@@ -45,7 +44,7 @@ pub(crate) fn plan_renewal<D: Disk, S: Sources>(
     requires most { request.size ≤ 2 ^ 44 }
     requires list { IsWellFormed list.now }
     ensures renews { RenewsImage request list.now
-        (device D.first D.calls D.faults D.strays disk.old) (device D.first D.calls D.faults D.strays disk.new)
+        (D.device disk.old) (D.device disk.new)
         (store S.told S.faults S.strays sources.old) (store S.told S.faults S.strays sources.new)
         (refused (refusal_of list.now) result) }
     ensures formed { IfOk result IsFormed }

@@ -9,8 +9,9 @@ use Rattle.rp_base.specs.declared.plan.Plan.{Plan}
 use Rattle.rp_base.specs.declared.seen.Seen.{Seen}
 use Rattle.rp_defs.specs.WellFormed.{IsWellFormed}
 use Rattle.rp_defs.specs.declared.definition.Definition.{Definition}
-use Rattle.rp_disk.specs.History.{History, held}
-use Rattle.rp_disk.specs.Made.{dones, history_of, history_told}
+use Rattle.rp_disk.specs.Device.{CanHave}
+use Rattle.rp_disk.specs.History.{held}
+use Rattle.rp_disk.specs.Made.{Past, dones, history_of}
 use Rattle.rp_disk.specs.declared.call.Call.TheVariants.{Sync}
 use Rattle.rp_gpt.specs.Shown.{accepted}
 use Rattle.rp_io.specs.declared.stored.Stored.{Stored}
@@ -34,7 +35,7 @@ same_facts a b e = cc
 
 module _ (request : Request) (list : List Definition) (disk opened read : Device) (sources asked : Store (List Stored)) (seen : Seen)
     (reset plan : Plan) (of_sector : IsSector request.sector) (whole : request.size % 4096 ≡ 0) (most : request.size ≤ 2 ^ 44)
-    (formed : IsWellFormed list) (fits : PlanFits (behind_reset seen reset plan)) (first : opened.first ≡ disk.first)
+    (formed : IsWellFormed list) (fits : PlanFits (behind_reset seen reset plan))
     (synced : opened.calls ≡ disk.calls ++ dones (Sync ∷ []))
     (plans : PlansWithReset request list opened read sources asked seen reset plan) where
   -- a reset keeps the length, so that the plan behind it has the same target
@@ -44,23 +45,17 @@ module _ (request : Request) (list : List Definition) (disk opened read : Device
   goal_is : goal (seen_after seen reset) (target_of request.size seen) list plans.known request.seed ≡ Ok plan
   goal_is = subst (λ n. goal (seen_after seen reset) n list plans.known request.seed ≡ Ok plan) same_target plans.goal_is
 
-  abbrev IsSeenAt : History → Type 0
-  IsSeenAt h = Settles disk_refusal (seen_of request.sector request.empty (held h)) (Ok seen)
-
-  module _ (bytes : List ℕ) (tells : disk.first ≡ Some bytes) where
+  module _ (past : Past) (can : CanHave past read) where
     -- the image as it was when the run began, since a sync changes no byte
-    sight : accepted request.sector (held (history_of bytes disk.calls)) request.empty ≡ Ok seen
+    sight : accepted request.sector (held (history_of past disk.calls)) request.empty ≡ Ok seen
     sight =
-        let there : IsSeenAt (history_of bytes opened.calls) =
-        subst (λ o. IfSome (history_told o opened.calls) IsSeenAt) (first ∙ tells) plans.reads.settled in
-        let then : IsSeenAt (history_of bytes (disk.calls ++ dones (Sync ∷ []))) =
-        subst (λ l. IsSeenAt (history_of bytes l)) synced there in
-        let now : Settles disk_refusal (seen_of request.sector request.empty (held (history_of bytes disk.calls))) (Ok seen) =
-        subst (λ image. Settles disk_refusal (seen_of request.sector request.empty image) (Ok seen)) (same_shown bytes disk.calls) then in
-        accepted_of (accepted request.sector (held (history_of bytes disk.calls)) request.empty) seen
-        (settled_ok disk_refusal (seen_of request.sector request.empty (held (history_of bytes disk.calls))) seen now)
+        let now : Settles disk_refusal (seen_of request.sector request.empty (held (history_of past disk.calls))) (Ok seen) =
+        subst (λ image. Settles disk_refusal (seen_of request.sector request.empty image) (Ok seen))
+        (ap (λ l. held (history_of past l)) synced ∙ same_shown past disk.calls) (plans.reads.settled past can) in
+        accepted_of (accepted request.sector (held (history_of past disk.calls)) request.empty) seen
+        (settled_ok disk_refusal (seen_of request.sector request.empty (held (history_of past disk.calls))) seen now)
 
-    pub are_goals : AreGoalsOf request list (held (history_of bytes disk.calls)) seen reset plan
+    pub are_goals : AreGoalsOf request list (held (history_of past disk.calls)) seen reset plan
     are_goals = record {
       known = plans.known;
       resets = record { of_sector = of_sector; seen_of = sight; fits = plans.reads.seen.fits; reset_is = plans.reset_is };
@@ -75,7 +70,7 @@ module _ (request : Request) (list : List Definition) (disk opened read : Device
 
     -- where the sources tell
     pub are_told : (files : List Stored) → sources.told ≡ Some files
-        → AreToldGoals request list (held (history_of bytes disk.calls)) files seen reset plan
+        → AreToldGoals request list (held (history_of past disk.calls)) files seen reset plan
     are_told files told =
         let asks : Settles source_refusal (Ok (facts request.seed files reset.goal list)) (Ok plans.known) =
         subst (λ o. IfSome o (λ files. Settles source_refusal (Ok (facts request.seed files reset.goal list)) (Ok plans.known))) told

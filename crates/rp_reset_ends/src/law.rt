@@ -16,7 +16,7 @@ ghost use Rattle.rp_outcome.specs.Refusals.{Refusal};
 ghost use Rattle.rp_outcome.specs.Store.{Store};
 ghost use Rattle.rp_planned.specs.Planning.{with_seen};
 ghost use Rattle.rp_planned.specs.declared.request.Request.{Request};
-ghost use Rattle.rp_reset_ends.specs.Ends.{CarriesAllOfBoth, CarriesSomeOfBoth};
+ghost use Rattle.rp_reset_ends.specs.Ends.{AreBegun, AreCarriedOut};
 ghost use Rattle.rp_reset_ends.specs.Planned.{PlansWithReset, behind_reset};
 ghost use Rattle.rp_steps.specs.Calls.{calls as calls_for};
 ghost use Rattle.rp_steps.specs.Contents.{Sources};
@@ -32,26 +32,26 @@ pub fn calls_by_any_sources_carry_out_plans()
 /// the image has the goal, and a stop leaves no other.
 pub fn a_run_with_a_reset_ends()
     ensures broken_off { (request : Request) (definitions : Definitions) (disk opened read later : Device)
-        (sources asked drained : Store (List Stored)) (seen : Seen) (reset plan : Plan) (before : List Call) (refusal : Refusal)
+        (sources asked drained : Store (List Stored)) (seen : Seen) (reset plan : Plan) (refusal : Refusal)
         → IsSector request.sector → request.size % 4096 ≡ 0 → request.size ≤ 2 ^ 44 → IsWellFormed definitions.list
-        → PlanFits (behind_reset seen reset plan) → opened.first ≡ disk.first → opened.calls ≡ disk.calls ++ dones (Call.Sync ∷ [])
+        → PlanFits (behind_reset seen reset plan) → opened.calls ≡ disk.calls ++ dones (Call.Sync ∷ [])
         → PlansWithReset request definitions.list opened read sources asked seen reset plan
-        → CarriesOut definitions (with_seen seen reset) read later asked drained before (Err refusal)
-        → (rest : List Call) × CarriesSomeOfBoth request definitions.list disk later sources seen reset plan before rest }
+        → CarriesOut definitions (with_seen seen reset) read later asked drained (Err refusal)
+        → AreBegun request definitions.list disk later sources seen reset plan }
     ensures some { (request : Request) (definitions : Definitions) (disk opened read between later : Device)
-        (sources asked left drained : Store (List Stored)) (seen : Seen) (reset plan : Plan) (before behind : List Call) (answer : Outcome)
+        (sources asked left drained : Store (List Stored)) (seen : Seen) (reset plan : Plan) (answer : Outcome)
         → IsSector request.sector → request.size % 4096 ≡ 0 → request.size ≤ 2 ^ 44 → IsWellFormed definitions.list
-        → PlanFits (behind_reset seen reset plan) → opened.first ≡ disk.first → opened.calls ≡ disk.calls ++ dones (Call.Sync ∷ [])
+        → PlanFits (behind_reset seen reset plan) → opened.calls ≡ disk.calls ++ dones (Call.Sync ∷ [])
         → PlansWithReset request definitions.list opened read sources asked seen reset plan
-        → CarriesOut definitions (with_seen seen reset) read between asked left before (Ok tt)
-        → CarriesOut definitions (behind_reset seen reset plan) between later left drained behind answer
-        → CarriesSomeOfBoth request definitions.list disk later sources seen reset plan before behind }
+        → CarriesOut definitions (with_seen seen reset) read between asked left (Ok tt)
+        → CarriesOut definitions (behind_reset seen reset plan) between later left drained answer
+        → AreBegun request definitions.list disk later sources seen reset plan }
     ensures all { (request : Request) (definitions : Definitions) (disk opened read between later : Device)
-        (sources asked left drained : Store (List Stored)) (seen : Seen) (reset plan : Plan) (before behind : List Call)
+        (sources asked left drained : Store (List Stored)) (seen : Seen) (reset plan : Plan)
         → IsSector request.sector → request.size % 4096 ≡ 0 → request.size ≤ 2 ^ 44 → IsWellFormed definitions.list
-        → PlanFits (behind_reset seen reset plan) → opened.first ≡ disk.first → opened.calls ≡ disk.calls ++ dones (Call.Sync ∷ [])
+        → PlanFits (behind_reset seen reset plan) → opened.calls ≡ disk.calls ++ dones (Call.Sync ∷ [])
         → PlansWithReset request definitions.list opened read sources asked seen reset plan
-        → CarriesOut definitions (with_seen seen reset) read between asked left before (Ok tt)
-        → CarriesOut definitions (behind_reset seen reset plan) between later left drained behind (Ok tt)
-        → CarriesAllOfBoth request definitions.list disk later sources seen reset plan before behind }
+        → CarriesOut definitions (with_seen seen reset) read between asked left (Ok tt)
+        → CarriesOut definitions (behind_reset seen reset plan) between later left drained (Ok tt)
+        → AreCarriedOut request definitions.list disk later sources seen reset plan }
 {}

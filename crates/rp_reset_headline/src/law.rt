@@ -1,6 +1,6 @@
 //! What a run with a factory reset leaves, as contracts of functions that do nothing.
 
-ghost use Rattle.std.specs.Prelude.{◌≡◌, ◌++◌, ℕ, List, [], ◌∷◌, Some};
+ghost use Rattle.std.specs.Prelude.{◌≡◌, ◌++◌, ℕ, List, [], ◌∷◌};
 ghost use Rattle.rp_again.specs.Again.{HasNothingLeft};
 ghost use Rattle.rp_base.specs.declared.guid.Guid.{Guid};
 ghost use Rattle.rp_base.specs.declared.plan.Plan.{Plan};
@@ -9,7 +9,7 @@ ghost use Rattle.rp_defs.specs.declared.definition.Definition.{Definition};
 ghost use Rattle.rp_disk.specs.Calls.{all_done};
 ghost use Rattle.rp_disk.specs.History as history;
 ghost use Rattle.rp_disk.specs.History.{LeftSince, MayLeave, moment};
-ghost use Rattle.rp_disk.specs.Made.{Made, history_of};
+ghost use Rattle.rp_disk.specs.Made.{Made, Past, history_of};
 ghost use Rattle.rp_disk.specs.Runs.{AtAnyMomentBehindSync, EndsSettled};
 ghost use Rattle.rp_disk.specs.Stops.{IsFrontOf, Leaves};
 ghost use Rattle.rp_disk.specs.declared.call.Call.{Call};
@@ -83,34 +83,34 @@ pub fn a_part_of_both_is_safe()
 /// Stopped at any moment, from any start: the image could have been left at the start already; or a sync was done, and the image is
 /// such a one by the calls behind it. Whatever is written into new rows, they hold what these writes give.
 pub fn stopped_at_any_moment()
-    ensures honest { (sector : ℕ) (bytes : List ℕ) (empty : Empty) (seen : Seen) (target : ℕ) (defs : List Definition) (facts : List Fact)
+    ensures honest { (sector : ℕ) (bytes : Past) (empty : Empty) (seen : Seen) (target : ℕ) (defs : List Definition) (facts : List Fact)
         (seed : Guid) (reset plan : Plan) (sources : Sources) (was now : List Made)
-        → AtAnyMomentBehindSync (Some bytes) was (calls_of_both seen reset plan sources) now
+        → AtAnyMomentBehindSync was (calls_of_both seen reset plan sources) now
         → IsReset sector (history.held (history_of bytes was)) empty seen defs reset
         → IsPlannedAnew sector seen target defs facts seed reset plan → NotesFit plan
         → (made : List Call) (image : List ℕ) → LeftSince (history_of bytes now) (moment (history_of bytes was)) made image
         → IsLeft (history_of bytes was) (IsSafeIfHonest sector (history.held (history_of bytes was)) seen reset plan
         (HoldAnew (history.held (history_of bytes was)) seen reset plan sources)) made image }
-    ensures whole { (sector : ℕ) (bytes : List ℕ) (empty : Empty) (seen : Seen) (target : ℕ) (defs : List Definition) (facts : List Fact)
+    ensures whole { (sector : ℕ) (bytes : Past) (empty : Empty) (seen : Seen) (target : ℕ) (defs : List Definition) (facts : List Fact)
         (seed : Guid) (reset plan : Plan) (sources : Sources) (was now : List Made)
-        → AtAnyMomentBehindSync (Some bytes) was (calls_of_both seen reset plan sources) now
+        → AtAnyMomentBehindSync was (calls_of_both seen reset plan sources) now
         → IsReset sector (history.held (history_of bytes was)) empty seen defs reset
         → IsPlannedAnew sector seen target defs facts seed reset plan → NotesFit plan
         → (made : List Call) (image : List ℕ) → LeftSince (history_of bytes now) (moment (history_of bytes was)) made image
         → IsLeft (history_of bytes was) (IsSafeIfWhole sector (history.held (history_of bytes was)) seen reset plan
         (HoldAnew (history.held (history_of bytes was)) seen reset plan sources)) made image }
-    ensures any { (sector : ℕ) (bytes : List ℕ) (empty : Empty) (seen : Seen) (target : ℕ) (defs : List Definition) (facts : List Fact)
+    ensures any { (sector : ℕ) (bytes : Past) (empty : Empty) (seen : Seen) (target : ℕ) (defs : List Definition) (facts : List Fact)
         (seed : Guid) (reset plan : Plan) (before body behind : List Call) (was now : List Made)
-        → AtAnyMomentBehindSync (Some bytes) was (before ++ behind) now
+        → AtAnyMomentBehindSync was (before ++ behind) now
         → IsReset sector (history.held (history_of bytes was)) empty seen defs reset
         → IsPlannedAnew sector seen target defs facts seed reset plan → AreCallsOf seen reset [] before
         → AreCallsOf (seen_after seen reset) plan body behind
         → (made : List Call) (image : List ℕ) → LeftSince (history_of bytes now) (moment (history_of bytes was)) made image
         → IsLeft (history_of bytes was) (IsSafeIfHonest sector (history.held (history_of bytes was)) seen reset plan
         (HoldWhatFills (all_done (history.held (history_of bytes was)) before) plan body)) made image }
-    ensures any_whole { (sector : ℕ) (bytes : List ℕ) (empty : Empty) (seen : Seen) (target : ℕ) (defs : List Definition)
+    ensures any_whole { (sector : ℕ) (bytes : Past) (empty : Empty) (seen : Seen) (target : ℕ) (defs : List Definition)
         (facts : List Fact) (seed : Guid) (reset plan : Plan) (before body behind : List Call) (was now : List Made)
-        → AtAnyMomentBehindSync (Some bytes) was (before ++ behind) now
+        → AtAnyMomentBehindSync was (before ++ behind) now
         → IsReset sector (history.held (history_of bytes was)) empty seen defs reset
         → IsPlannedAnew sector seen target defs facts seed reset plan → AreCallsOf seen reset [] before
         → AreCallsOf (seen_after seen reset) plan body behind
@@ -121,16 +121,16 @@ pub fn stopped_at_any_moment()
 
 /// Once a sync and all calls of both were made, a stop leaves the image with all of it, and no other.
 pub fn a_stop_at_the_end_leaves_the_same()
-    ensures exact { (sector : ℕ) (bytes : List ℕ) (empty : Empty) (seen : Seen) (target : ℕ) (defs : List Definition) (facts : List Fact)
+    ensures exact { (sector : ℕ) (bytes : Past) (empty : Empty) (seen : Seen) (target : ℕ) (defs : List Definition) (facts : List Fact)
         (seed : Guid) (reset plan : Plan) (sources : Sources) (was now : List Made)
-        → EndsSettled (Some bytes) was (Call.Sync ∷ calls_of_both seen reset plan sources) now
+        → EndsSettled was (Call.Sync ∷ calls_of_both seen reset plan sources) now
         → IsReset sector (history.held (history_of bytes was)) empty seen defs reset
         → IsPlannedAnew sector seen target defs facts seed reset plan → NotesFit plan
         → (image : List ℕ) → MayLeave (history_of bytes now) image
         → IsDoneAnew sector (history.held (history_of bytes was)) seen defs seed reset plan sources image }
-    ensures any { (sector : ℕ) (bytes : List ℕ) (empty : Empty) (seen : Seen) (target : ℕ) (defs : List Definition) (facts : List Fact)
+    ensures any { (sector : ℕ) (bytes : Past) (empty : Empty) (seen : Seen) (target : ℕ) (defs : List Definition) (facts : List Fact)
         (seed : Guid) (reset plan : Plan) (before body behind : List Call) (was now : List Made)
-        → EndsSettled (Some bytes) was (Call.Sync ∷ before ++ behind) now
+        → EndsSettled was (Call.Sync ∷ before ++ behind) now
         → IsReset sector (history.held (history_of bytes was)) empty seen defs reset
         → IsPlannedAnew sector seen target defs facts seed reset plan → AreCallsOf seen reset [] before
         → AreCallsOf (seen_after seen reset) plan body behind → (image : List ℕ) → MayLeave (history_of bytes now) image
@@ -146,9 +146,9 @@ pub fn a_second_run_has_no_calls()
         → IsPlannedAnew sector seen target defs facts seed reset plan → AreCallsOf seen reset [] before
         → AreCallsOf (seen_after seen reset) plan body behind → plan.dropped ≡ []
         → HasNothingLeft sector (all_done old (before ++ behind)) defs seed }
-    ensures left { (sector : ℕ) (bytes : List ℕ) (empty : Empty) (seen : Seen) (target : ℕ) (defs : List Definition) (facts : List Fact)
+    ensures left { (sector : ℕ) (bytes : Past) (empty : Empty) (seen : Seen) (target : ℕ) (defs : List Definition) (facts : List Fact)
         (seed : Guid) (reset plan : Plan) (before body behind : List Call) (was now : List Made)
-        → EndsSettled (Some bytes) was (Call.Sync ∷ before ++ behind) now
+        → EndsSettled was (Call.Sync ∷ before ++ behind) now
         → IsReset sector (history.held (history_of bytes was)) empty seen defs reset
         → IsPlannedAnew sector seen target defs facts seed reset plan → AreCallsOf seen reset [] before
         → AreCallsOf (seen_after seen reset) plan body behind → plan.dropped ≡ [] → (image : List ℕ)

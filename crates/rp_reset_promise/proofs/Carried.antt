@@ -28,7 +28,7 @@ use Rattle.rp_reset_promise.specs.Ends.{CarriesAllBy, CarriesSomeBy, ResetsNothi
 
 module _ (request : Request) (definitions : Definitions) (disk opened read later : Device) (sources asked drained : Store (List Stored))
     (renewal : Renewal) (of_sector : IsSector request.sector) (whole : request.size % 4096 ≡ 0) (most : request.size ≤ 2 ^ 44)
-    (formed : IsWellFormed definitions.list) (fits : PlanFits renewal.planned) (first : opened.first ≡ disk.first)
+    (formed : IsWellFormed definitions.list) (fits : PlanFits renewal.planned)
     (synced : opened.calls ≡ disk.calls ++ dones (Sync ∷ []))
     (renews : RenewsImage request definitions.list opened read sources asked (Ok renewal)) where
   told : Known request definitions.list opened read sources asked renewal
@@ -76,68 +76,58 @@ module _ (request : Request) (definitions : Definitions) (disk opened read later
     fits_so : PlanFits (behind_reset renewal.seen reset renewal.planned.plan)
     fits_so = subst PlanFits planned_is fits
 
-    some_by : (answer : Outcome) (calls : List Call) (carries : CarriesBoth definitions renewal reset read later asked drained calls answer)
-        → (outcome : Outcome) → CarriesOut definitions (with_reset renewal reset) read carries.middle asked carries.between carries.before outcome
-        → GoesOn definitions renewal.planned carries.middle later carries.between drained carries.behind outcome answer
+    some_by : (answer : Outcome) (carries : CarriesBoth definitions renewal reset read later asked drained answer)
+        → (outcome : Outcome) → CarriesOut definitions (with_reset renewal reset) read carries.middle asked carries.between outcome
+        → GoesOn definitions renewal.planned carries.middle later carries.between drained outcome answer
         → CarriesSomeBy request definitions.list disk later sources renewal (Some reset)
-    some_by answer calls carries (Ok done) resets goes_on = (
-      carries.before,
-      carries.behind,
-      some_of_both request definitions disk opened read sources asked renewal.seen reset renewal.planned.plan of_sector whole most formed fits_so
-          first synced plans_both later drained carries.before carries.middle carries.between carries.behind answer resets
-          (subst (λ (p : Planned). CarriesOut definitions p carries.middle later carries.between drained carries.behind answer) planned_is goes_on),
-    )
-    some_by answer calls carries (Err refusal) resets (same, same_sources, none, is) =
-        let broken = broken_off request definitions disk opened read sources asked renewal.seen reset renewal.planned.plan of_sector whole most formed
-        fits_so first synced plans_both later drained carries.before refusal
-        (subst (λ (d : Device). CarriesOut definitions (with_reset renewal reset) read d asked drained carries.before (Err refusal)) (sym same)
-        (subst (λ (s : Store (List Stored)). CarriesOut definitions (with_reset renewal reset) read carries.middle asked s carries.before (Err refusal))
-        (sym same_sources) resets)) in
-        (carries.before, broken.0, broken.1)
+    some_by answer carries (Ok done) resets goes_on =
+        some_of_both request definitions disk opened read sources asked renewal.seen reset renewal.planned.plan of_sector whole most formed
+        fits_so synced plans_both later drained carries.middle carries.between answer resets
+        (subst (λ (p : Planned). CarriesOut definitions p carries.middle later carries.between drained answer) planned_is goes_on)
+    some_by answer carries (Err refusal) resets (same, same_sources, is) =
+        broken_off request definitions disk opened read sources asked renewal.seen reset renewal.planned.plan of_sector whole most formed
+        fits_so synced plans_both later drained refusal
+        (subst (λ (d : Device). CarriesOut definitions (with_reset renewal reset) read d asked drained (Err refusal)) (sym same)
+        (subst (λ (s : Store (List Stored)). CarriesOut definitions (with_reset renewal reset) read carries.middle asked s (Err refusal))
+        (sym same_sources) resets))
 
-    all_by : (calls : List Call) (carries : CarriesBoth definitions renewal reset read later asked drained calls (Ok tt))
-        → (outcome : Outcome) → CarriesOut definitions (with_reset renewal reset) read carries.middle asked carries.between carries.before outcome
-        → GoesOn definitions renewal.planned carries.middle later carries.between drained carries.behind outcome (Ok tt)
+    all_by : (carries : CarriesBoth definitions renewal reset read later asked drained (Ok tt))
+        → (outcome : Outcome) → CarriesOut definitions (with_reset renewal reset) read carries.middle asked carries.between outcome
+        → GoesOn definitions renewal.planned carries.middle later carries.between drained outcome (Ok tt)
         → CarriesAllBy request definitions.list disk later sources renewal (Some reset)
-    all_by calls carries (Ok done) resets goes_on =
-        let then : CarriesOut definitions (behind_reset renewal.seen reset renewal.planned.plan) carries.middle later carries.between drained
-        carries.behind (Ok tt) =
-        subst (λ (p : Planned). CarriesOut definitions p carries.middle later carries.between drained carries.behind (Ok tt)) planned_is goes_on in (
-          carries.before,
-          carries.behind,
-          all_of_both request definitions disk opened read sources asked renewal.seen reset renewal.planned.plan of_sector whole most formed fits_so
-              first synced plans_both later drained carries.before carries.middle carries.between carries.behind (Ok tt) resets then then.ran.ok,
-        )
-    all_by calls carries (Err refusal) resets (same, same_sources, none, is) = absurd (not_err is) where
+    all_by carries (Ok done) resets goes_on =
+        all_of_both request definitions disk opened read sources asked renewal.seen reset renewal.planned.plan of_sector whole most formed
+        fits_so synced plans_both later drained carries.middle carries.between (Ok tt) resets
+        (subst (λ (p : Planned). CarriesOut definitions p carries.middle later carries.between drained (Ok tt)) planned_is goes_on)
+        (λ o behind second. second.ran.ok)
+    all_by carries (Err refusal) resets (same, same_sources, is) = absurd (not_err is) where
       not_err : ◌≡◌ {A = Outcome} (Ok tt) (Err refusal) → ⊥
       not_err e = absurd (cc)
 
-  some_renewed : (calls : List Call) (answer : Outcome) (o : Option Plan) → renewal.reset ≡ o
-      → CarriesRenewal definitions renewal o read later asked drained calls answer → CarriesSomeBy request definitions.list disk later sources renewal o
-  some_renewed calls answer None is carries = (
+  some_renewed : (answer : Outcome) (o : Option Plan) → renewal.reset ≡ o
+      → CarriesRenewal definitions renewal o read later asked drained answer → CarriesSomeBy request definitions.list disk later sources renewal o
+  some_renewed answer None is carries = (
     nothing_out is,
-    calls,
-    carries_some request definitions disk opened read later sources asked drained renewal.planned calls answer of_sector whole most formed fits first
+    carries_some request definitions disk opened read later sources asked drained renewal.planned answer of_sector whole most formed fits
         synced (plans_alone is) carries,
   )
-  some_renewed calls answer (Some reset) is carries = some_by reset is answer calls carries carries.outcome carries.resets carries.goes_on
+  some_renewed answer (Some reset) is carries = some_by reset is answer carries carries.outcome carries.resets carries.goes_on
 
-  all_renewed : (calls : List Call) (o : Option Plan) → renewal.reset ≡ o
-      → CarriesRenewal definitions renewal o read later asked drained calls (Ok tt) → CarriesAllBy request definitions.list disk later sources renewal o
-  all_renewed calls None is carries = (
+  all_renewed : (o : Option Plan) → renewal.reset ≡ o
+      → CarriesRenewal definitions renewal o read later asked drained (Ok tt) → CarriesAllBy request definitions.list disk later sources renewal o
+  all_renewed None is carries = (
     nothing_out is,
-    calls,
-    carries_all request definitions disk opened read later sources asked drained renewal.planned calls (Ok tt) of_sector whole most formed fits first
-        synced (plans_alone is) carries carries.ran.ok,
+    carries_all request definitions disk opened read later sources asked drained renewal.planned of_sector whole most formed fits synced
+        (plans_alone is) carries,
   )
-  all_renewed calls (Some reset) is carries = all_by reset is calls carries carries.outcome carries.resets carries.goes_on
+  all_renewed (Some reset) is carries = all_by reset is carries carries.outcome carries.resets carries.goes_on
 
   -- the first of what is planned was carried out
-  pub carried_some : (calls : List Call) (answer : Outcome) → CarriesRenewal definitions renewal renewal.reset read later asked drained calls answer
+  pub carried_some : (answer : Outcome) → CarriesRenewal definitions renewal renewal.reset read later asked drained answer
       → CarriesSomeBy request definitions.list disk later sources renewal renewal.reset
-  carried_some calls answer carries = some_renewed calls answer renewal.reset refl carries
+  carried_some answer carries = some_renewed answer renewal.reset refl carries
 
   -- all of it was
-  pub carried_all : (calls : List Call) → CarriesRenewal definitions renewal renewal.reset read later asked drained calls (Ok tt)
+  pub carried_all : CarriesRenewal definitions renewal renewal.reset read later asked drained (Ok tt)
       → CarriesAllBy request definitions.list disk later sources renewal renewal.reset
-  carried_all calls carries = all_renewed calls renewal.reset refl carries
+  carried_all carries = all_renewed renewal.reset refl carries

@@ -205,9 +205,9 @@ renew_kept request list disk later sources drained renewal renews =
     seen_kept request list disk later sources drained renews.0 renewal renews.1 renews.2
 
 -- why a plan was broken off
-carry_cause : (definitions : Definitions) (planned : Planned) (disk later : Device) (sources drained : Store (List Stored)) (calls : List Call)
-    (refusal : Refusal) → CarriesOut definitions planned disk later sources drained calls (Err refusal) → HasCause disk later sources drained refusal
-carry_cause definitions planned disk later sources drained calls refusal carries = by carries.refusal where
+carry_cause : (definitions : Definitions) (planned : Planned) (disk later : Device) (sources drained : Store (List Stored))
+    (refusal : Refusal) → CarriesOut definitions planned disk later sources drained (Err refusal) → HasCause disk later sources drained refusal
+carry_cause definitions planned disk later sources drained refusal carries = by carries.refusal where
   by : IsCommitRefusal planned refusal → HasCause disk later sources drained refusal
   by (inl failed) = inr (inl (failed, carries.cause.of_disk.failed (ap Err failed)))
   by (inr (inl failed)) =
@@ -224,9 +224,9 @@ carry_cause definitions planned disk later sources drained calls refusal carries
         kept_err disk_refusal refusal disk.faults later.faults carries.cause.of_disk (λ e. absurd (omega (arith, eleven, e))),
       )
 
-carry_kept : (definitions : Definitions) (planned : Planned) (disk later : Device) (sources drained : Store (List Stored)) (calls : List Call)
-    → CarriesOut definitions planned disk later sources drained calls (Ok tt) → (later.faults ≡ disk.faults) × (drained.faults ≡ sources.faults)
-carry_kept definitions planned disk later sources drained calls carries = (
+carry_kept : (definitions : Definitions) (planned : Planned) (disk later : Device) (sources drained : Store (List Stored))
+    → CarriesOut definitions planned disk later sources drained (Ok tt) → (later.faults ≡ disk.faults) × (drained.faults ≡ sources.faults)
+carry_kept definitions planned disk later sources drained carries = (
   kept_ok disk_refusal disk.faults later.faults tt carries.cause.of_disk,
   kept_ok source_refusal sources.faults drained.faults tt carries.cause.of_sources,
 )
@@ -240,40 +240,40 @@ behind_kept disk mid later sources between drained refusal kept kept_sources (in
 behind_kept disk mid later sources between drained refusal kept kept_sources (inr (inr (is, same, rose))) =
     inr (inr (is, same ∙ kept, subst (λ (n : ℕ). Rose n drained.faults) kept_sources rose))
 
-module _ (definitions : Definitions) (renewal : Renewal) (disk later : Device) (sources drained : Store (List Stored)) (calls : List Call) where
-  both_cause : (reset : Plan) (refusal : Refusal) (carries : CarriesBoth definitions renewal reset disk later sources drained calls (Err refusal))
-      → (outcome : Outcome) → CarriesOut definitions (with_reset renewal reset) disk carries.middle sources carries.between carries.before outcome
-      → GoesOn definitions renewal.planned carries.middle later carries.between drained carries.behind outcome (Err refusal)
+module _ (definitions : Definitions) (renewal : Renewal) (disk later : Device) (sources drained : Store (List Stored)) where
+  both_cause : (reset : Plan) (refusal : Refusal) (carries : CarriesBoth definitions renewal reset disk later sources drained (Err refusal))
+      → (outcome : Outcome) → CarriesOut definitions (with_reset renewal reset) disk carries.middle sources carries.between outcome
+      → GoesOn definitions renewal.planned carries.middle later carries.between drained outcome (Err refusal)
       → HasCause disk later sources drained refusal
   both_cause reset refusal carries (Ok done) resets goes_on =
-      let kept = carry_kept definitions (with_reset renewal reset) disk carries.middle sources carries.between carries.before resets in
+      let kept = carry_kept definitions (with_reset renewal reset) disk carries.middle sources carries.between resets in
       behind_kept disk carries.middle later sources carries.between drained refusal kept.0 kept.1
-      (carry_cause definitions renewal.planned carries.middle later carries.between drained carries.behind refusal goes_on)
-  both_cause reset refusal carries (Err other) resets (same, same_sources, none, is) =
+      (carry_cause definitions renewal.planned carries.middle later carries.between drained refusal goes_on)
+  both_cause reset refusal carries (Err other) resets (same, same_sources, is) =
       let cause : HasCause disk carries.middle sources carries.between refusal =
       subst (HasCause disk carries.middle sources carries.between) (sym (same_err {T = Unit {0}} refusal other is))
-      (carry_cause definitions (with_reset renewal reset) disk carries.middle sources carries.between carries.before other resets) in
+      (carry_cause definitions (with_reset renewal reset) disk carries.middle sources carries.between other resets) in
       subst (λ (d : Device). HasCause disk d sources drained refusal) (sym same)
       (subst (λ (s : Store (List Stored)). HasCause disk carries.middle sources s refusal) (sym same_sources) cause)
 
-  both_kept : (reset : Plan) (carries : CarriesBoth definitions renewal reset disk later sources drained calls (Ok tt))
-      → (outcome : Outcome) → CarriesOut definitions (with_reset renewal reset) disk carries.middle sources carries.between carries.before outcome
-      → GoesOn definitions renewal.planned carries.middle later carries.between drained carries.behind outcome (Ok tt)
+  both_kept : (reset : Plan) (carries : CarriesBoth definitions renewal reset disk later sources drained (Ok tt))
+      → (outcome : Outcome) → CarriesOut definitions (with_reset renewal reset) disk carries.middle sources carries.between outcome
+      → GoesOn definitions renewal.planned carries.middle later carries.between drained outcome (Ok tt)
       → (later.faults ≡ disk.faults) × (drained.faults ≡ sources.faults)
   both_kept reset carries (Ok done) resets goes_on =
-      let first = carry_kept definitions (with_reset renewal reset) disk carries.middle sources carries.between carries.before resets in
-      let then = carry_kept definitions renewal.planned carries.middle later carries.between drained carries.behind goes_on in
+      let first = carry_kept definitions (with_reset renewal reset) disk carries.middle sources carries.between resets in
+      let then = carry_kept definitions renewal.planned carries.middle later carries.between drained goes_on in
       (then.0 ∙ first.0, then.1 ∙ first.1)
-  both_kept reset carries (Err other) resets (same, same_sources, none, is) = no_err {T = Unit {0}} tt other is
+  both_kept reset carries (Err other) resets (same, same_sources, is) = no_err {T = Unit {0}} tt other is
 
-  renewal_cause : (o : Option Plan) (refusal : Refusal) → CarriesRenewal definitions renewal o disk later sources drained calls (Err refusal)
+  renewal_cause : (o : Option Plan) (refusal : Refusal) → CarriesRenewal definitions renewal o disk later sources drained (Err refusal)
       → HasCause disk later sources drained refusal
-  renewal_cause None refusal carries = carry_cause definitions renewal.planned disk later sources drained calls refusal carries
+  renewal_cause None refusal carries = carry_cause definitions renewal.planned disk later sources drained refusal carries
   renewal_cause (Some reset) refusal carries = both_cause reset refusal carries carries.outcome carries.resets carries.goes_on
 
-  renewal_kept : (o : Option Plan) → CarriesRenewal definitions renewal o disk later sources drained calls (Ok tt)
+  renewal_kept : (o : Option Plan) → CarriesRenewal definitions renewal o disk later sources drained (Ok tt)
       → (later.faults ≡ disk.faults) × (drained.faults ≡ sources.faults)
-  renewal_kept None carries = carry_kept definitions renewal.planned disk later sources drained calls carries
+  renewal_kept None carries = carry_kept definitions renewal.planned disk later sources drained carries
   renewal_kept (Some reset) carries = both_kept reset carries carries.outcome carries.resets carries.goes_on
 
 -- two numbers that differ are no one status
@@ -389,51 +389,51 @@ module _ (folders read : Store Tree) (disk later : Device) (sources drained : St
     pub plan_reset_causes : PlansReset request json dirs folders read disk later sources drained out after status → All
     plan_reset_causes (definitions, reads, behind) = plan_behind definitions reads behind
 
-    ends_here : (mid : Device) (asked : Store (List Stored)) (refusal : Refusal) (calls : List Call) → HasCause disk mid sources asked refusal
-        → EndsHere mid later asked drained out after status refusal calls → All
-    ends_here mid asked refusal calls cause (same, same_sources, none, refuses) =
+    ends_here : (mid : Device) (asked : Store (List Stored)) (refusal : Refusal) → HasCause disk mid sources asked refusal
+        → EndsHere mid later asked drained out after status refusal → All
+    ends_here mid asked refusal cause (same, same_sources, refuses) =
         by_cause refusal (subst (λ (d : Device). HasCause disk d sources drained refusal) (sym same)
         (subst (λ (s : Store (List Stored)). HasCause disk mid sources s refusal) (sym same_sources) cause)) refuses
 
     committed : (definitions : Definitions) → read.faults ≡ folders.faults → (mid : Device) (asked : Store (List Stored)) → mid.faults ≡ disk.faults
-        → asked.faults ≡ sources.faults → (renewal : Renewal) (calls : List Call) (answer : Outcome)
-        → CarriesRenewal definitions renewal renewal.reset mid later asked drained calls answer
+        → asked.faults ≡ sources.faults → (renewal : Renewal) (answer : Outcome)
+        → CarriesRenewal definitions renewal renewal.reset mid later asked drained answer
         → TellsApplied json definitions renewal out after status answer → All
-    committed definitions folders_kept mid asked kept kept_sources renewal calls (Ok done) carries finishes =
-        let then = renewal_kept definitions renewal mid later asked drained calls renewal.reset carries in
+    committed definitions folders_kept mid asked kept kept_sources renewal (Ok done) carries finishes =
+        let then = renewal_kept definitions renewal mid later asked drained renewal.reset carries in
         by_finish (renewal_report json definitions renewal true) (then.0 ∙ kept) folders_kept (then.1 ∙ kept_sources) finishes
-    committed definitions folders_kept mid asked kept kept_sources renewal calls (Err refusal) carries refuses =
+    committed definitions folders_kept mid asked kept kept_sources renewal (Err refusal) carries refuses =
         by_cause refusal (behind_kept disk mid later sources asked drained refusal kept kept_sources
-        (renewal_cause definitions renewal mid later asked drained calls renewal.reset refusal carries)) refuses
+        (renewal_cause definitions renewal mid later asked drained renewal.reset refusal carries)) refuses
 
     apply_told : (definitions : Definitions) → read.faults ≡ folders.faults → (opened mid : Device) (asked : Store (List Stored))
-        → opened.faults ≡ disk.faults → (calls : List Call) (answer : Result Renewal Refusal)
+        → opened.faults ≡ disk.faults → (answer : Result Renewal Refusal)
         → RenewsImage request definitions.list opened mid sources asked answer
-        → AppliesPlanned json definitions mid later asked drained out after status calls answer → All
-    apply_told definitions folders_kept opened mid asked kept calls (Err refusal) renews here =
-        ends_here mid asked refusal calls (behind_kept disk opened mid sources sources asked refusal kept refl
+        → AppliesPlanned json definitions mid later asked drained out after status answer → All
+    apply_told definitions folders_kept opened mid asked kept (Err refusal) renews here =
+        ends_here mid asked refusal (behind_kept disk opened mid sources sources asked refusal kept refl
         (renew_cause request definitions.list opened mid sources asked refusal renews)) here
-    apply_told definitions folders_kept opened mid asked kept calls (Ok renewal) renews (inl here) =
+    apply_told definitions folders_kept opened mid asked kept (Ok renewal) renews (inl here) =
         let then = renew_kept request definitions.list opened mid sources asked renewal renews in
-        ends_here mid asked memory_refusal calls (short disk mid sources asked memory_refusal refl (then.0 ∙ kept)) here
-    apply_told definitions folders_kept opened mid asked kept calls (Ok renewal) renews (inr (answer, carries, tells)) =
+        ends_here mid asked memory_refusal (short disk mid sources asked memory_refusal refl (then.0 ∙ kept)) here
+    apply_told definitions folders_kept opened mid asked kept (Ok renewal) renews (inr (answer, carries, tells)) =
         let then = renew_kept request definitions.list opened mid sources asked renewal renews in
-        committed definitions folders_kept mid asked (then.0 ∙ kept) then.1 renewal calls answer carries tells
+        committed definitions folders_kept mid asked (then.0 ∙ kept) then.1 renewal answer carries tells
 
-    apply_opened : (definitions : Definitions) → read.faults ≡ folders.faults → (opened : Device) (calls : List Call) (answer : Outcome)
-        → Opens disk opened answer → AppliesOpened request json definitions opened later sources drained out after status calls answer → All
-    apply_opened definitions folders_kept opened calls (Err refusal) opens here =
-        ends_here opened sources refusal calls (inr (inl (opens.refusal, opens.cause.failed (ap Err opens.refusal)))) here
-    apply_opened definitions folders_kept opened calls (Ok done) opens (mid, asked, answer, renews, fits, applies) =
-        apply_told definitions folders_kept opened mid asked (kept_ok disk_refusal disk.faults opened.faults done opens.cause) calls answer renews applies
+    apply_opened : (definitions : Definitions) → read.faults ≡ folders.faults → (opened : Device) (answer : Outcome)
+        → Opens disk opened answer → AppliesOpened request json definitions opened later sources drained out after status answer → All
+    apply_opened definitions folders_kept opened (Err refusal) opens here =
+        ends_here opened sources refusal (inr (inl (opens.refusal, opens.cause.failed (ap Err opens.refusal)))) here
+    apply_opened definitions folders_kept opened (Ok done) opens (mid, asked, answer, renews, fits, applies) =
+        apply_told definitions folders_kept opened mid asked (kept_ok disk_refusal disk.faults opened.faults done opens.cause) answer renews applies
 
-    apply_behind : (calls : List Call) (definitions : Result Definitions Refusal) → ReadsDefinitions request.arch dirs folders read definitions
-        → AppliesBehind request json disk later sources drained out after status calls definitions → All
-    apply_behind calls (Err refusal) reads (same, same_sources, none, refuses) =
+    apply_behind : (definitions : Result Definitions Refusal) → ReadsDefinitions request.arch dirs folders read definitions
+        → AppliesBehind request json disk later sources drained out after status definitions → All
+    apply_behind (Err refusal) reads (same, same_sources, refuses) =
         by_reading refusal reads.cause reads.refusal (ap (λ (d : Device). d.faults) same) refuses
-    apply_behind calls (Ok definitions) reads (opened, answer, opens, applies) =
-        apply_opened definitions (kept_ok folder_refusal folders.faults read.faults definitions reads.cause) opened calls answer opens applies
+    apply_behind (Ok definitions) reads (opened, answer, opens, applies) =
+        apply_opened definitions (kept_ok folder_refusal folders.faults read.faults definitions reads.cause) opened answer opens applies
 
     -- of `apply`
     pub apply_reset_causes : AppliesReset request json dirs folders read disk later sources drained out after status → All
-    apply_reset_causes (calls, (definitions, reads, behind)) = apply_behind calls definitions reads behind
+    apply_reset_causes (definitions, reads, behind) = apply_behind definitions reads behind

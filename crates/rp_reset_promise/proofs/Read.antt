@@ -1,7 +1,7 @@
 -- `plan` reads the disk alone.
-use Rattle.std.proofs.Common.{ℕ, ◌≡◌, List, Bool, Option, Some, None, Result, Ok, Err, refl, sym, subst}
-use Rattle.std.specs.Prelude.{IfSome}
+use Rattle.std.proofs.Common.{ℕ, ◌≡◌, List, Bool, Result, Ok, Err, refl, sym, subst}
 use Rattle.rp_defs.specs.declared.definition.Definitions.{Definitions}
+use Rattle.rp_disk.proofs.Noting.{earlier_same}
 use Rattle.rp_io.specs.Files.{Tree}
 use Rattle.rp_io.specs.declared.stored.Stored.{Stored}
 use Rattle.rp_outcome.specs.Device.{Device, IsOnlyRead}
@@ -13,10 +13,7 @@ use Rattle.rp_reset_command.specs.Plans.{PlansBehind, PlansReset}
 
 -- a disk that wasn't asked was read alone
 not_asked : (disk later : Device) → later ≡ disk → IsOnlyRead disk later
-not_asked disk later same = subst (IsOnlyRead disk) (sym same) (record { first = refl; calls = refl; strays = unmoved disk.first }) where
-  unmoved : (o : Option (List ℕ)) → IfSome o (λ _. disk.strays ≡ disk.strays)
-  unmoved None = tt
-  unmoved (Some bytes) = refl
+not_asked disk later same = subst (IsOnlyRead disk) (sym same) (record { calls = refl; earlier = earlier_same disk; inside = λ past can. refl })
 
 pub plan_reset_reads : (request : Request) (json : Bool) (dirs : List (List ℕ)) (folders read : Store Tree) (disk later : Device)
     (sources drained : Store (List Stored)) (out after : Output) (status : ℕ)

@@ -2,20 +2,21 @@
 use Rattle.std.proofs.Common.{◌≡◌, ◌⊎◌, ◌∙◌, ℕ, ◌++◌, Bool, true, false, List, [], ◌∷◌, Option, Some, None, Result, Ok, Err, refl, sym, ap, subst, inl, inr, arith}
 use Rattle.std.specs.Prelude.{IfSome, IsErrAnd, IsOkAnd}
 use Rattle.rp_apply_command.proofs.Runs.{same_shown}
-use Rattle.rp_apply_command.specs.Applies.{Opens, Outcome}
+use Rattle.rp_apply_command.specs.Applies.{ForEachPast, Opens, Outcome}
 use Rattle.rp_apply_command.specs.Ends.{IsBetween}
 use Rattle.rp_base.specs.declared.plan.Plan.{Plan}
 use Rattle.rp_base.specs.declared.seen.Seen.{Seen}
 use Rattle.rp_defs.specs.declared.definition.Definition.{Definition}
 use Rattle.rp_defs.specs.declared.definition.Definitions.{Definitions}
+use Rattle.rp_disk.specs.Device.{Earlier, IsPossible}
 use Rattle.rp_disk.specs.History.{History, held}
-use Rattle.rp_disk.specs.Made.{Made, dones, history_of, history_told}
-use Rattle.rp_disk.specs.declared.call.Call.{Call}
+use Rattle.rp_disk.specs.Made.{Made, Past, dones, history_of, history_told}
 use Rattle.rp_disk.specs.declared.call.Call.TheVariants.{Sync}
+use Rattle.rp_disk.proofs.Noting.{earlier_same, earlier_then, known_told, possible_before}
 use Rattle.rp_io.specs.Files.{Tree}
 use Rattle.rp_io.specs.declared.stored.Stored.{Stored}
 use Rattle.rp_outcome.specs.Demands.{demand_refusal}
-use Rattle.rp_outcome.specs.Device.{Device, history}
+use Rattle.rp_outcome.specs.Device.{Device}
 use Rattle.rp_outcome.specs.Output.{Output, Finishes, Prints, PrintsAll, PrintsPart, Refuses}
 use Rattle.rp_outcome.specs.Refusals.{Refusal, disk_refusal, folder_refusal, line_of, memory_refusal, repair_refusal, source_refusal}
 use Rattle.rp_outcome.specs.Store.{Store}
@@ -27,7 +28,7 @@ use Rattle.rp_reading.specs.Reading.{ReadsDefinitions, definitions_in}
 use Rattle.rp_reading.specs.Stages.{Settles, and_then, refused}
 use Rattle.rp_reset.specs.Reset.{reset as reset_of}
 use Rattle.rp_reset_command.proofs.Refused.{IsRefused as IsNone, none_renewed}
-use Rattle.rp_reset_command.specs.Applies.{AppliesBehind, AppliesOpened, AppliesPlanned, AppliesReset, CarriesRenewal, TellsApplied}
+use Rattle.rp_reset_command.specs.Applies.{AppliesBehind, AppliesOpened, AppliesPlanned, AppliesReset, CarriesRenewal, GoesOn, TellsApplied}
 use Rattle.rp_reset_command.specs.Plans.{PlansBehind, PlansReset, Tells}
 use Rattle.rp_reset_command.specs.Renewing.{RenewsBehind, RenewsImage, RenewsLeft, RenewsSeen, RenewsUnless, ResetsSeen, renewal_of, renewal_unless, renewed_by, seen_left}
 use Rattle.rp_reset_command.specs.Reports.{renewal_report}
@@ -82,16 +83,17 @@ where_any (Some a) = tt
 not_memory : {P : Type 0} (refusal : Refusal) → IsRefused refusal.status → refusal ≡ memory_refusal → P
 not_memory refusal is same = far refusal.status 10 is (ap (λ (r : Refusal). r.status) same) (λ h. omega arith) (λ h. omega arith) (λ h. omega arith)
 
-module _ (request : Request) (list : List Definition) (disk later : Device) (sources drained : Store (List Stored)) where
+module _ (request : Request) (list : List Definition) (disk later : Device) (sources drained : Store (List Stored)) (o : Option Past)
+    (can : IsPossible o later) where
   -- what is told of the image and the sources is this answer
   abbrev ToldSo : Result Renewal Refusal → Type 0
-  ToldSo answer = IfSome (history disk) (λ h. IfSome sources.told (λ files. renewal_of request list (held h) files ≡ answer))
+  ToldSo answer = IfSome (history_told o disk.calls) (λ h. IfSome sources.told (λ files. renewal_of request list (held h) files ≡ answer))
 
   abbrev Sighted : Result Seen Refusal → Type 0
-  Sighted seen = IfSome (history disk) (λ h. seen_of request.sector request.empty (held h) ≡ seen)
+  Sighted seen = IfSome (history_told o disk.calls) (λ h. seen_of request.sector request.empty (held h) ≡ seen)
 
   sighted : (seen : Result Seen Refusal) → IsTelling seen → ReadsImage request.sector request.empty disk later seen → Sighted seen
-  sighted seen telling reads = by (history disk) reads.settled where
+  sighted seen telling reads = by (history_told o disk.calls) (known_told o disk later _ reads.settled can) where
     by : (o : Option History) → IfSome o (λ h. Settles disk_refusal (seen_of request.sector request.empty (held h)) seen)
         → IfSome o (λ h. seen_of request.sector request.empty (held h) ≡ seen)
     by None settles = tt
@@ -102,7 +104,7 @@ module _ (request : Request) (list : List Definition) (disk later : Device) (sou
   behind_seen : (seen : Seen) (answer : Result Renewal Refusal) (Q : List Stored → Type 0) → Sighted (Ok seen)
       → ((files : List Stored) → Q files → renewal_unless (must_repair request.size seen) request list files seen ≡ answer) → IfSome sources.told Q → ToldSo answer
   behind_seen seen answer Q sight by_files told =
-      where_both (history disk) sources.told (λ h. seen_of request.sector request.empty (held h) ≡ Ok seen) Q
+      where_both (history_told o disk.calls) sources.told (λ h. seen_of request.sector request.empty (held h) ≡ Ok seen) Q
       (λ h files. renewal_of request list (held h) files ≡ answer)
       (λ h files is q.
       ap (λ (s : Result Seen Refusal). and_then s (λ seen. renewal_unless (must_repair request.size seen) request list files seen)) is ∙ by_files files q)
@@ -183,7 +185,7 @@ module _ (request : Request) (list : List Definition) (disk later : Device) (sou
   by_seen : (seen : Result Seen Refusal) (answer : Result Renewal Refusal) → IsTelling answer → ReadsImage request.sector request.empty disk later seen
       → RenewsSeen request list seen sources drained answer → ToldSo answer
   by_seen (Err other) answer telling reads (e, same) =
-      subst ToldSo (sym e) (where_both (history disk) sources.told (λ h. seen_of request.sector request.empty (held h) ≡ Err other) (λ _. Unit {0})
+      subst ToldSo (sym e) (where_both (history_told o disk.calls) sources.told (λ h. seen_of request.sector request.empty (held h) ≡ Err other) (λ _. Unit {0})
       (λ h files. renewal_of request list (held h) files ≡ Err other)
       (λ h files is none. ap (λ (s : Result Seen Refusal). and_then s (λ seen. renewal_unless (must_repair request.size seen) request list files seen)) is)
       (sighted (Err other) (subst (λ (a : Result Renewal Refusal). IsTelling a) e telling) reads) (where_any sources.told))
@@ -192,19 +194,31 @@ module _ (request : Request) (list : List Definition) (disk later : Device) (sou
 
 -- what is planned for an image is what is told of it
 pub renewal_told : (request : Request) (list : List Definition) (disk later : Device) (sources drained : Store (List Stored))
-    (answer : Result Renewal Refusal) → IsTelling answer → RenewsImage request list disk later sources drained answer
-    → IfSome (history disk) (λ h. IfSome sources.told (λ files. renewal_of request list (held h) files ≡ answer))
-renewal_told request list disk later sources drained answer telling renews =
-    by_seen request list disk later sources drained renews.0 answer telling renews.1 renews.2
+    (o : Option Past) → IsPossible o later → (answer : Result Renewal Refusal) → IsTelling answer
+    → RenewsImage request list disk later sources drained answer
+    → IfSome (history_told o disk.calls) (λ h. IfSome sources.told (λ files. renewal_of request list (held h) files ≡ answer))
+renewal_told request list disk later sources drained o can answer telling renews =
+    by_seen request list disk later sources drained o can renews.0 answer telling renews.1 renews.2
+
+-- what was made of a disk follows what was noted of it
+renewal_earlier : (definitions : Definitions) (renewal : Renewal) (o : Option Plan) (disk later : Device) (sources drained : Store (List Stored))
+    (answer : Outcome) → CarriesRenewal definitions renewal o disk later sources drained answer → Earlier disk later
+renewal_earlier definitions renewal None disk later sources drained answer carries = carries.earlier
+renewal_earlier definitions renewal (Some reset) disk later sources drained answer carries =
+    earlier_then carries.resets.earlier (by carries.outcome carries.goes_on) where
+      by : (outcome : Outcome) → GoesOn definitions renewal.planned carries.middle later carries.between drained outcome answer
+          → Earlier carries.middle later
+      by (Ok done) goes_on = goes_on.earlier
+      by (Err refusal) (same, same_sources, is) = subst (Earlier carries.middle) (sym same) (earlier_same carries.middle)
 
 module _ (request : Request) (json : Bool) (dirs : List (List ℕ)) (folders read : Store Tree) (disk later : Device)
     (sources drained : Store (List Stored)) (out after : Output) (status : ℕ) (applied : Bool) where
   abbrev All : Type 0
-  All = AnswersReset request json dirs folders disk sources out after status applied
+  All = AnswersReset request json dirs folders disk later sources out after status applied
 
   -- this is told of the folders, the image and the sources
   abbrev Told : Result (Definitions × Renewal) Refusal → Type 0
-  Told answer = WhereTold folders disk sources (λ tree image files. told_reset request dirs tree image files ≡ answer)
+  Told answer = WhereTold folders disk later sources (λ tree image files. told_reset request dirs tree image files ≡ answer)
 
   -- what follows where all three tell
   more : {A B C : Type 0} (o : Option A) (p : Option B) (q : Option C) (P Q : A → B → C → Type 0) → ((a : A) (b : B) (c : C) → P a b c → Q a b c)
@@ -216,10 +230,10 @@ module _ (request : Request) (json : Bool) (dirs : List (List ℕ)) (folders rea
 
   by_refusal : (refusal : Refusal) → IsRefused refusal.status → Told (Err refusal) → Refuses out after refusal status → All
   by_refusal refusal is told refuses = let e : refusal.status ≡ status = sym refuses.answers in record {
-    refused = λ f.
-        more folders.told (history disk) sources.told _ _
+    refused = λ f o can.
+        more folders.told (history_told o disk.calls) sources.told _ _
         (λ tree h files told. subst (λ (answer : Result (Definitions × Renewal) Refusal).
-        IsErrAnd answer (λ refusal. (refusal.status ≡ status) × Prints out after (line_of refusal))) (sym told) (e, refuses.printed)) told;
+        IsErrAnd answer (λ refusal. (refusal.status ≡ status) × Prints out after (line_of refusal))) (sym told) (e, refuses.printed)) (told o can);
     done = λ f. far refusal.status 0 is (e ∙ f) (λ h. omega arith) (λ h. omega arith) (λ h. omega arith);
     cut = λ f. far refusal.status 9 is (e ∙ f) (λ h. omega arith) (λ h. omega arith) (λ h. omega arith);
   }
@@ -228,19 +242,19 @@ module _ (request : Request) (json : Bool) (dirs : List (List ℕ)) (folders rea
       → Finishes out after (renewal_report json definitions renewal applied) status → All
   by_finish definitions renewal told (inl (e, printed)) = record {
     refused = λ f. far status 0 f e (λ h. omega arith) (λ h. omega arith) (λ h. omega arith);
-    done = λ f.
-        more folders.told (history disk) sources.told _ _
+    done = λ f o can.
+        more folders.told (history_told o disk.calls) sources.told _ _
         (λ tree h files told. subst (λ (answer : Result (Definitions × Renewal) Refusal).
-        IsOkAnd answer (λ told. PrintsAll out after (renewal_report json told.0 told.1 applied))) (sym told) printed) told;
+        IsOkAnd answer (λ told. PrintsAll out after (renewal_report json told.0 told.1 applied))) (sym told) printed) (told o can);
     cut = λ f. absurd (omega (arith, e, f));
   }
   by_finish definitions renewal told (inr (e, printed)) = record {
     refused = λ f. far status 9 f e (λ h. omega arith) (λ h. omega arith) (λ h. omega arith);
     done = λ f. absurd (omega (arith, e, f));
-    cut = λ f.
-        more folders.told (history disk) sources.told _ _
+    cut = λ f o can.
+        more folders.told (history_told o disk.calls) sources.told _ _
         (λ tree h files told. subst (λ (answer : Result (Definitions × Renewal) Refusal).
-        IsOkAnd answer (λ told. PrintsPart out after (renewal_report json told.0 told.1 applied))) (sym told) printed) told;
+        IsOkAnd answer (λ told. PrintsPart out after (renewal_report json told.0 told.1 applied))) (sym told) printed) (told o can);
   }
 
   -- at other statuses nothing is said
@@ -272,7 +286,7 @@ module _ (request : Request) (json : Bool) (dirs : List (List ℕ)) (folders rea
   by_reading : (refusal : Refusal) → ReadsDefinitions request.arch dirs folders read (Err refusal) → Refuses out after refusal status → All
   by_reading refusal reads refuses = by reads.refusal where
     told : (is : refusal.status ≡ 3) → Told (Err refusal)
-    told is = where_three folders.told (history disk) sources.told reads.settled where
+    told is o can = where_three folders.told (history_told o disk.calls) sources.told reads.settled where
       where_three : (o : Option Tree) (p : Option History) (q : Option (List Stored))
           → IfSome o (λ tree. Settles folder_refusal (definitions_in request.arch tree dirs) (Err refusal))
           → IfSome o (λ tree. IfSome p (λ h. IfSome q (λ files. told_reset request dirs tree (held h) files ≡ Err refusal)))
@@ -291,11 +305,14 @@ module _ (request : Request) (json : Bool) (dirs : List (List ℕ)) (folders rea
     by (inr (inr short)) = by_memory (refuses.answers ∙ ap (λ (r : Refusal). r.status) short)
 
   module _ (definitions : Definitions) (reads : ReadsDefinitions request.arch dirs folders read (Ok definitions)) where
+    -- this is told of the image and the sources
+    abbrev ToldBoth : Result Renewal Refusal → Type 0
+    ToldBoth answer = ForEachPast later (λ o. IfSome (history_told o disk.calls)
+        (λ h. IfSome sources.told (λ files. renewal_of request definitions.list (held h) files ≡ answer)))
+
     -- what is told of all, by what is told of the image and the sources
-    told_all : (answer : Result Renewal Refusal)
-        → IfSome (history disk) (λ h. IfSome sources.told (λ files. renewal_of request definitions.list (held h) files ≡ answer))
-        → Told (and_then answer (λ renewal. Ok (definitions, renewal)))
-    told_all answer told = where_three folders.told (history disk) sources.told reads.settled told where
+    told_all : (answer : Result Renewal Refusal) → ToldBoth answer → Told (and_then answer (λ renewal. Ok (definitions, renewal)))
+    told_all answer told o can = where_three folders.told (history_told o disk.calls) sources.told reads.settled (told o can) where
       where_three : (o : Option Tree) (p : Option History) (q : Option (List Stored))
           → IfSome o (λ tree. Settles folder_refusal (definitions_in request.arch tree dirs) (Ok definitions))
           → IfSome p (λ h. IfSome q (λ files. renewal_of request definitions.list (held h) files ≡ answer))
@@ -313,8 +330,7 @@ module _ (request : Request) (json : Bool) (dirs : List (List ℕ)) (folders rea
 
     -- nothing is planned
     by_none : (refusal : Refusal) → IsNone refusal
-        → (IsRefused refusal.status → IfSome (history disk) (λ h. IfSome sources.told (λ files. renewal_of request definitions.list (held h) files ≡ Err refusal)))
-        → Refuses out after refusal status → All
+        → (IsRefused refusal.status → ToldBoth (Err refusal)) → Refuses out after refusal status → All
     by_none refusal (inl (inl three)) told refuses = by_refusal refusal (inl three) (told_all (Err refusal) (told (inl three))) refuses
     by_none refusal (inl (inr (inl four))) told refuses =
         by_refusal refusal (inr (inl four)) (told_all (Err refusal) (told (inr (inl four)))) refuses
@@ -327,75 +343,75 @@ module _ (request : Request) (json : Bool) (dirs : List (List ℕ)) (folders rea
         → Tells json definitions out after status answer → All
     plan_told (Err refusal) not_applied renews refuses =
         by_none refusal (none_renewed request definitions.list disk later sources drained refusal renews)
-        (λ is. renewal_told request definitions.list disk later sources drained (Err refusal) is renews) refuses
+        (λ is o can. renewal_told request definitions.list disk later sources drained o can (Err refusal) is renews) refuses
     plan_told (Ok renewal) not_applied renews (inl finishes) =
-        by_finish definitions renewal (told_all (Ok renewal) (renewal_told request definitions.list disk later sources drained (Ok renewal) tt renews))
+        by_finish definitions renewal (told_all (Ok renewal) (λ o can. renewal_told request definitions.list disk later sources drained o can (Ok renewal) tt renews))
         (subst (λ (b : Bool). Finishes out after (renewal_report json definitions renewal b) status) (sym not_applied) finishes)
     plan_told (Ok renewal) not_applied renews (inr refuses) = by_memory refuses.answers
 
     -- behind the opening sync the image is the same
-    module _ (opened : Device) (first : opened.first ≡ disk.first) (synced : opened.calls ≡ disk.calls ++ dones (Sync ∷ [])) (mid : Device)
-        (asked : Store (List Stored)) where
-      at_first : (answer : Result Renewal Refusal) → IsTelling answer → RenewsImage request definitions.list opened mid sources asked answer
-          → IfSome (history disk) (λ h. IfSome sources.told (λ files. renewal_of request definitions.list (held h) files ≡ answer))
-      at_first answer telling renews =
-          by disk.first (subst (λ o. At o opened.calls) first (renewal_told request definitions.list opened mid sources asked answer telling renews)) where
-            At : Option (List ℕ) → List Made → Type 0
+    module _ (opened : Device) (synced : opened.calls ≡ disk.calls ++ dones (Sync ∷ [])) (mid : Device) (asked : Store (List Stored)) where
+      at_first : (answer : Result Renewal Refusal) → Earlier mid later → IsTelling answer
+          → RenewsImage request definitions.list opened mid sources asked answer → ToldBoth answer
+      at_first answer behind telling renews o can =
+          by o (renewal_told request definitions.list opened mid sources asked o (possible_before o behind can) answer telling renews) where
+            At : Option Past → List Made → Type 0
             At o calls = IfSome (history_told o calls) (λ h. IfSome sources.told (λ files. renewal_of request definitions.list (held h) files ≡ answer))
 
-            by : (o : Option (List ℕ)) → At o opened.calls → At o disk.calls
+            by : (o : Option Past) → At o opened.calls → At o disk.calls
             by None told = tt
-            by (Some bytes) told =
+            by (Some past) told =
                 subst (λ image. IfSome sources.told (λ files. renewal_of request definitions.list image files ≡ answer))
-                (ap (λ (l : List Made). held (history_of bytes l)) synced ∙ same_shown bytes disk.calls) told
+                (ap (λ (l : List Made). held (history_of past l)) synced ∙ same_shown past disk.calls) told
 
-      committed : (renewal : Renewal) (calls : List Call) (answer : Outcome) → applied ≡ true
+      committed : (renewal : Renewal) (answer : Outcome) → applied ≡ true
           → RenewsImage request definitions.list opened mid sources asked (Ok renewal)
-          → CarriesRenewal definitions renewal renewal.reset mid later asked drained calls answer
+          → CarriesRenewal definitions renewal renewal.reset mid later asked drained answer
           → TellsApplied json definitions renewal out after status answer → All
-      committed renewal calls (Ok done) is_applied renews carries finishes =
-          by_finish definitions renewal (told_all (Ok renewal) (at_first (Ok renewal) tt renews))
+      committed renewal (Ok done) is_applied renews carries finishes =
+          by_finish definitions renewal (told_all (Ok renewal)
+          (at_first (Ok renewal) (renewal_earlier definitions renewal renewal.reset mid later asked drained (Ok done) carries) tt renews))
           (subst (λ (b : Bool). Finishes out after (renewal_report json definitions renewal b) status) (sym is_applied) finishes)
-      committed renewal calls (Err refusal) is_applied renews carries refuses =
-          by_between (subst IsBetween (sym refuses.answers) (broken_status definitions renewal mid later asked drained calls refusal carries))
+      committed renewal (Err refusal) is_applied renews carries refuses =
+          by_between (subst IsBetween (sym refuses.answers) (broken_status definitions renewal mid later asked drained refusal carries))
 
-      apply_told : (calls : List Call) (answer : Result Renewal Refusal) → applied ≡ true
-          → RenewsImage request definitions.list opened mid sources asked answer
-          → AppliesPlanned json definitions mid later asked drained out after status calls answer → All
-      apply_told calls (Err refusal) is_applied renews (same, same_sources, none, refuses) =
-          by_none refusal (none_renewed request definitions.list opened mid sources asked refusal renews) (λ is. at_first (Err refusal) is renews) refuses
-      apply_told calls (Ok renewal) is_applied renews (inl (same, same_sources, none, refuses)) = by_memory refuses.answers
-      apply_told calls (Ok renewal) is_applied renews (inr (answer, carries, tells)) = committed renewal calls answer is_applied renews carries tells
+      apply_told : (answer : Result Renewal Refusal) → applied ≡ true → RenewsImage request definitions.list opened mid sources asked answer
+          → AppliesPlanned json definitions mid later asked drained out after status answer → All
+      apply_told (Err refusal) is_applied renews (same, same_sources, refuses) =
+          by_none refusal (none_renewed request definitions.list opened mid sources asked refusal renews)
+          (λ is. at_first (Err refusal) (subst (Earlier mid) (sym same) (earlier_same mid)) is renews) refuses
+      apply_told (Ok renewal) is_applied renews (inl (same, same_sources, refuses)) = by_memory refuses.answers
+      apply_told (Ok renewal) is_applied renews (inr (answer, carries, tells)) = committed renewal answer is_applied renews carries tells
 
-    apply_opened : (opened : Device) (calls : List Call) (answer : Outcome) → applied ≡ true → Opens disk opened answer
-        → AppliesOpened request json definitions opened later sources drained out after status calls answer → All
-    apply_opened opened calls (Err refusal) is_applied opens (same, same_sources, none, refuses) =
+    apply_opened : (opened : Device) (answer : Outcome) → applied ≡ true → Opens disk opened answer
+        → AppliesOpened request json definitions opened later sources drained out after status answer → All
+    apply_opened opened (Err refusal) is_applied opens (same, same_sources, refuses) =
         by_between (inl (refuses.answers ∙ ap (λ (r : Refusal). r.status) opens.refusal))
-    apply_opened opened calls (Ok done) is_applied opens (mid, asked, answer, renews, fits, applies) =
-        apply_told opened opens.first opens.ran.ok mid asked calls answer is_applied renews applies
+    apply_opened opened (Ok done) is_applied opens (mid, asked, answer, renews, fits, applies) =
+        apply_told opened opens.ran.ok mid asked answer is_applied renews applies
 
   plan_behind : (definitions : Result Definitions Refusal) → applied ≡ false → ReadsDefinitions request.arch dirs folders read definitions
       → PlansBehind request json definitions disk later sources drained out after status → All
   plan_behind (Err refusal) not_applied reads (same, same_sources, refuses) = by_reading refusal reads refuses
   plan_behind (Ok definitions) not_applied reads (answer, renews, tells) = plan_told definitions reads answer not_applied renews tells
 
-  apply_behind : (calls : List Call) (definitions : Result Definitions Refusal) → applied ≡ true
+  apply_behind : (definitions : Result Definitions Refusal) → applied ≡ true
       → ReadsDefinitions request.arch dirs folders read definitions
-      → AppliesBehind request json disk later sources drained out after status calls definitions → All
-  apply_behind calls (Err refusal) is_applied reads (same, same_sources, none, refuses) = by_reading refusal reads refuses
-  apply_behind calls (Ok definitions) is_applied reads (opened, answer, opens, applies) =
-      apply_opened definitions reads opened calls answer is_applied opens applies
+      → AppliesBehind request json disk later sources drained out after status definitions → All
+  apply_behind (Err refusal) is_applied reads (same, same_sources, refuses) = by_reading refusal reads refuses
+  apply_behind (Ok definitions) is_applied reads (opened, answer, opens, applies) =
+      apply_opened definitions reads opened answer is_applied opens applies
 
 pub plan_answers : (request : Request) (json : Bool) (dirs : List (List ℕ)) (folders read : Store Tree) (disk later : Device)
     (sources drained : Store (List Stored)) (out after : Output) (status : ℕ)
     → PlansReset request json dirs folders read disk later sources drained out after status
-    → AnswersReset request json dirs folders disk sources out after status false
+    → AnswersReset request json dirs folders disk later sources out after status false
 plan_answers request json dirs folders read disk later sources drained out after status (definitions, reads, behind) =
     plan_behind request json dirs folders read disk later sources drained out after status false definitions refl reads behind
 
 pub apply_answers : (request : Request) (json : Bool) (dirs : List (List ℕ)) (folders read : Store Tree) (disk later : Device)
     (sources drained : Store (List Stored)) (out after : Output) (status : ℕ)
     → AppliesReset request json dirs folders read disk later sources drained out after status
-    → AnswersReset request json dirs folders disk sources out after status true
-apply_answers request json dirs folders read disk later sources drained out after status (calls, (definitions, reads, behind)) =
-    apply_behind request json dirs folders read disk later sources drained out after status true calls definitions refl reads behind
+    → AnswersReset request json dirs folders disk later sources out after status true
+apply_answers request json dirs folders read disk later sources drained out after status (definitions, reads, behind) =
+    apply_behind request json dirs folders read disk later sources drained out after status true definitions refl reads behind

@@ -1,11 +1,10 @@
 -- What a run of `apply` with a factory reset made of an image, by its exit status.
 use Rattle.std.specs.Prelude.{ℕ, ◌≡◌, ◌⊎◌, List, Bool, true, Option, Some, None, Ok}
 use Rattle.rp_apply_command.specs.Applies.{IsCommitRefusal}
-use Rattle.rp_apply_command.specs.Ends.{AreRead, CarriesAll, CarriesSome, IsBefore, IsBehind, IsBetween, LeavesAll}
+use Rattle.rp_apply_command.specs.Ends.{AreRead, IsBefore, IsBegun, IsBehind, IsBetween, IsCarriedOut, LeavesAll}
 use Rattle.rp_base.specs.declared.plan.Plan.{Plan}
 use Rattle.rp_defs.specs.declared.definition.Definition.{Definition}
 use Rattle.rp_defs.specs.declared.definition.Definitions.{Definitions}
-use Rattle.rp_disk.specs.declared.call.Call.{Call}
 use Rattle.rp_io.specs.Files.{Tree}
 use Rattle.rp_io.specs.declared.stored.Stored.{Stored}
 use Rattle.rp_outcome.specs.Device.{Device}
@@ -17,7 +16,7 @@ use Rattle.rp_reset.specs.Reset.{reset as reset_of}
 use Rattle.rp_reset_command.specs.Renewing.{with_reset}
 use Rattle.rp_reset_command.specs.Reports.{renewal_report}
 use Rattle.rp_reset_command.specs.declared.renewal.Renewal.{Renewal}
-use Rattle.rp_reset_ends.specs.Ends.{CarriesAllOfBoth, CarriesSomeOfBoth}
+use Rattle.rp_reset_ends.specs.Ends.{AreBegun, AreCarriedOut}
 
 -- the old table has no row that a reset takes out
 abbrev pub ResetsNothing : List Definition → Renewal → Type 0
@@ -27,10 +26,9 @@ ResetsNothing list renewal = reset_of renewal.planned.seen list ≡ Ok None
 -- one
 abbrev pub CarriesSomeBy : Request → List Definition → Device → Device → Store (List Stored) → Renewal → Option Plan → Type 0
 CarriesSomeBy request list disk later sources renewal None =
-    ResetsNothing list renewal × (calls : List Call) × CarriesSome request list disk later sources renewal.planned calls
+    ResetsNothing list renewal × IsBegun request list disk later sources renewal.planned
 CarriesSomeBy request list disk later sources renewal (Some reset) =
-    (before : List Call) × (behind : List Call)
-    × CarriesSomeOfBoth request list disk later sources renewal.seen reset renewal.planned.plan before behind
+    AreBegun request list disk later sources renewal.seen reset renewal.planned.plan
 
 abbrev pub CarriesSomeRenewed : Request → List Definition → Device → Device → Store (List Stored) → Renewal → Type 0
 CarriesSomeRenewed request list disk later sources renewal = CarriesSomeBy request list disk later sources renewal renewal.reset
@@ -38,10 +36,9 @@ CarriesSomeRenewed request list disk later sources renewal = CarriesSomeBy reque
 -- all of it was carried out
 abbrev pub CarriesAllBy : Request → List Definition → Device → Device → Store (List Stored) → Renewal → Option Plan → Type 0
 CarriesAllBy request list disk later sources renewal None =
-    ResetsNothing list renewal × (calls : List Call) × CarriesAll request list disk later sources renewal.planned calls
+    ResetsNothing list renewal × IsCarriedOut request list disk later sources renewal.planned
 CarriesAllBy request list disk later sources renewal (Some reset) =
-    (before : List Call) × (behind : List Call)
-    × CarriesAllOfBoth request list disk later sources renewal.seen reset renewal.planned.plan before behind
+    AreCarriedOut request list disk later sources renewal.seen reset renewal.planned.plan
 
 abbrev pub CarriesAllRenewed : Request → List Definition → Device → Device → Store (List Stored) → Renewal → Type 0
 CarriesAllRenewed request list disk later sources renewal = CarriesAllBy request list disk later sources renewal renewal.reset

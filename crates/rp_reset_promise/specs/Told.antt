@@ -25,11 +25,11 @@ told_reset request dirs tree image files =
 
 -- at 3, 4 and 5 the first refusal of what is told has that status, and its line was printed; at 0 and 9 something is planned, and its
 -- text was printed, or a part of it
-pub record AnswersReset (request : Request) (json : Bool) (dirs : List (List ℕ)) (folders : Store Tree) (disk : Device)
+pub record AnswersReset (request : Request) (json : Bool) (dirs : List (List ℕ)) (folders : Store Tree) (disk later : Device)
     (sources : Store (List Stored)) (out after : Output) (status : ℕ) (applied : Bool) : Type 0 where
-  pub refused : IsRefused status → WhereTold folders disk sources (λ tree image files.
+  pub refused : IsRefused status → WhereTold folders disk later sources (λ tree image files.
       IsErrAnd (told_reset request dirs tree image files) (λ refusal. (refusal.status ≡ status) × Prints out after (line_of refusal)))
-  pub done : status ≡ exit.done → WhereTold folders disk sources (λ tree image files.
+  pub done : status ≡ exit.done → WhereTold folders disk later sources (λ tree image files.
       IsOkAnd (told_reset request dirs tree image files) (λ told. PrintsAll out after (renewal_report json told.0 told.1 applied)))
-  pub cut : status ≡ exit.sink → WhereTold folders disk sources (λ tree image files.
+  pub cut : status ≡ exit.sink → WhereTold folders disk later sources (λ tree image files.
       IsOkAnd (told_reset request dirs tree image files) (λ told. PrintsPart out after (renewal_report json told.0 told.1 applied)))

@@ -42,15 +42,15 @@ pub fn resets_have_causes()
         → HasResetCauses folders read disk later sources drained out after status }
 {}
 
-/// What is printed where folders, disk and sources tell: at 3, 4 and 5 the line of the first refusal of what they tell, which has that
-/// status; at 0 and 9 the text of what is planned by them, whole or in part.
+/// What is printed where folders and sources tell, of each past that the disk can have: at 3, 4 and 5 the line of the first refusal of
+/// what they tell, which has that status; at 0 and 9 the text of what is planned by them, whole or in part.
 pub fn resets_answer_as_told()
     ensures plan { (request : Asked) (json : Bool) (dirs : List (List ℕ)) (folders read : Store Tree) (disk later : Device)
         (sources drained : Store (List Stored)) (out after : Output) (status : ℕ)
         → PlansReset request json dirs folders read disk later sources drained out after status
-        → AnswersReset request json dirs folders disk sources out after status false }
+        → AnswersReset request json dirs folders disk later sources out after status false }
     ensures apply { (request : Asked) (json : Bool) (dirs : List (List ℕ)) (folders read : Store Tree) (disk later : Device)
         (sources drained : Store (List Stored)) (out after : Output) (status : ℕ)
         → AppliesReset request json dirs folders read disk later sources drained out after status
-        → AnswersReset request json dirs folders disk sources out after status true }
+        → AnswersReset request json dirs folders disk later sources out after status true }
 {}

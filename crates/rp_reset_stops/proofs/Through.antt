@@ -1,5 +1,5 @@
 -- A stop in the calls of a reset and those of the plan behind it.
-use Rattle.std.proofs.Common.{◌≡◌, ◌≢◌, ◌∙◌, ℕ, ◌⊎◌, ◌*◌, List, [], ◌∷◌, ◌++◌, get_or, All, Some, Ok, refl, ap, sym, subst, inl, inr}
+use Rattle.std.proofs.Common.{◌≡◌, ◌≢◌, ◌∙◌, ℕ, ◌⊎◌, ◌*◌, List, [], ◌∷◌, ◌++◌, get_or, All, Ok, refl, ap, sym, subst, inl, inr}
 use Rattle.std.specs.Prelude.{Contains}
 use Rattle.std.proofs.lemmas.List.Elements.{All-contains, All-contains_itself}
 use Rattle.rp_base.specs.Plan.{KeepsRow, Noted, noted_of}
@@ -12,7 +12,7 @@ use Rattle.rp_defs.specs.declared.definition.Definition.{Definition}
 use Rattle.rp_disk.specs.Calls.{all_done}
 use Rattle.rp_disk.specs.History as history
 use Rattle.rp_disk.specs.History.{LeftSince, MayLeave, moment}
-use Rattle.rp_disk.specs.Made.{Made, history_of}
+use Rattle.rp_disk.specs.Made.{Made, Past, history_of}
 use Rattle.rp_disk.specs.Runs.{AtAnyMomentBehindSync}
 use Rattle.rp_disk.specs.Stops.{IsFrontOf, Leaves}
 use Rattle.rp_disk.specs.declared.call.Call.{Call}
@@ -131,8 +131,8 @@ module _ (sector : ℕ) (old : List ℕ) (empty : Empty) (seen : Seen) (defs : L
         (plan-given sector (all_done old before) Refuse (seen_after seen reset) plan
         (plan_behind sector old empty seen defs reset is before are plan fits)) body behind are_behind contents fills)
 
-module _ (sector : ℕ) (bytes : List ℕ) (empty : Empty) (seen : Seen) (defs : List Definition) (reset plan : Plan)
-    (before body behind : List Call) (old now : List Made) (any : AtAnyMomentBehindSync (Some bytes) old (before ++ behind) now)
+module _ (sector : ℕ) (bytes : Past) (empty : Empty) (seen : Seen) (defs : List Definition) (reset plan : Plan)
+    (before body behind : List Call) (old now : List Made) (any : AtAnyMomentBehindSync old (before ++ behind) now)
     (is : IsResetFor sector (history.held (history_of bytes old)) empty seen defs reset) (are : AreCallsOf seen reset [] before)
     (fits : IsPlanBehind seen reset plan) (are_behind : AreCallsOf (seen_after seen reset) plan body behind) where
   abbrev start : List ℕ
@@ -144,7 +144,7 @@ module _ (sector : ℕ) (bytes : List ℕ) (empty : Empty) (seen : Seen) (defs :
   pub moment_honest : (made : List Call) (image : List ℕ) → LeftSince (history_of bytes now) (moment (history_of bytes old)) made image
       → MayLeave (history_of bytes old) image ⊎ ((more : List Call) × (made ≡ Sync ∷ more)
       × IsSafeIfHonest sector start seen reset plan Hold more image)
-  moment_honest made image since = elim (any made image since) [
+  moment_honest made image since = elim (any bytes made image since) [
     | inl at_start ↦ inl at_start
     | inr later ↦
         inr (
@@ -157,7 +157,7 @@ module _ (sector : ℕ) (bytes : List ℕ) (empty : Empty) (seen : Seen) (defs :
   pub moment_whole : (made : List Call) (image : List ℕ) → LeftSince (history_of bytes now) (moment (history_of bytes old)) made image
       → MayLeave (history_of bytes old) image ⊎ ((more : List Call) × (made ≡ Sync ∷ more)
       × IsSafeIfWhole sector start seen reset plan Hold more image)
-  moment_whole made image since = elim (any made image since) [
+  moment_whole made image since = elim (any bytes made image since) [
     | inl at_start ↦ inl at_start
     | inr later ↦
         inr (

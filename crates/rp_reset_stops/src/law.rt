@@ -1,13 +1,13 @@
 //! What a factory reset and the plan behind it leave, as contracts of functions that do nothing.
 
-ghost use Rattle.std.specs.Prelude.{◌≡◌, ◌≢◌, ◌⊎◌, ◌++◌, ℕ, List, [], ◌∷◌, Some, Ok};
+ghost use Rattle.std.specs.Prelude.{◌≡◌, ◌≢◌, ◌⊎◌, ◌++◌, ℕ, List, [], ◌∷◌, Ok};
 ghost use Rattle.rp_base.specs.declared.plan.Plan.{Plan};
 ghost use Rattle.rp_base.specs.declared.seen.Seen.{Seen};
 ghost use Rattle.rp_defs.specs.declared.definition.Definition.{Definition};
 ghost use Rattle.rp_disk.specs.Calls.{all_done};
 ghost use Rattle.rp_disk.specs.History as history;
 ghost use Rattle.rp_disk.specs.History.{LeftSince, MayLeave, moment};
-ghost use Rattle.rp_disk.specs.Made.{Made, history_of};
+ghost use Rattle.rp_disk.specs.Made.{Made, Past, history_of};
 ghost use Rattle.rp_disk.specs.Runs.{AtAnyMomentBehindSync};
 ghost use Rattle.rp_disk.specs.Stops.{IsFrontOf, Leaves};
 ghost use Rattle.rp_disk.specs.declared.call.Call.{Call};
@@ -52,16 +52,16 @@ pub fn a_stop_leaves_the_old_the_reset_or_the_goal()
 /// The same over a disk, at any moment of a function that makes a sync and then the calls of both, from any start: the image could
 /// have been left at the start already, or that sync was done and the image is such a one by the calls behind it.
 pub fn any_moment_of_both_is_safe()
-    ensures honest { (sector : ℕ) (bytes : List ℕ) (empty : Empty) (seen : Seen) (defs : List Definition) (reset plan : Plan)
-        (before body behind : List Call) (old now : List Made) → AtAnyMomentBehindSync (Some bytes) old (before ++ behind) now
+    ensures honest { (sector : ℕ) (bytes : Past) (empty : Empty) (seen : Seen) (defs : List Definition) (reset plan : Plan)
+        (before body behind : List Call) (old now : List Made) → AtAnyMomentBehindSync old (before ++ behind) now
         → IsResetFor sector (history.held (history_of bytes old)) empty seen defs reset → AreCallsOf seen reset [] before
         → IsPlanBehind seen reset plan → AreCallsOf (seen_after seen reset) plan body behind
         → (made : List Call) (image : List ℕ) → LeftSince (history_of bytes now) (moment (history_of bytes old)) made image
         → MayLeave (history_of bytes old) image ⊎ ((more : List Call) × (made ≡ Call.Sync ∷ more)
         × IsSafeIfHonest sector (history.held (history_of bytes old)) seen reset plan
         (HoldWhatFills (all_done (history.held (history_of bytes old)) before) plan body) more image) }
-    ensures whole { (sector : ℕ) (bytes : List ℕ) (empty : Empty) (seen : Seen) (defs : List Definition) (reset plan : Plan)
-        (before body behind : List Call) (old now : List Made) → AtAnyMomentBehindSync (Some bytes) old (before ++ behind) now
+    ensures whole { (sector : ℕ) (bytes : Past) (empty : Empty) (seen : Seen) (defs : List Definition) (reset plan : Plan)
+        (before body behind : List Call) (old now : List Made) → AtAnyMomentBehindSync old (before ++ behind) now
         → IsResetFor sector (history.held (history_of bytes old)) empty seen defs reset → AreCallsOf seen reset [] before
         → IsPlanBehind seen reset plan → AreCallsOf (seen_after seen reset) plan body behind
         → (made : List Call) (image : List ℕ) → LeftSince (history_of bytes now) (moment (history_of bytes old)) made image

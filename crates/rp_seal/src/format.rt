@@ -23,7 +23,7 @@ struct Hashes<D: Disk + Drop> {
 impl<D: Disk + Drop> TreeOut for Hashes<D> {
     ghost told = { λ _. None };
 
-    ghost faults = { λ out. D.Disk.faults out.disk };
+    ghost faults = { λ out. (D.Disk.device out.disk).faults };
 
     fn faults(&self) -> u64 {
         self.disk.faults()

@@ -1,9 +1,10 @@
 -- What `show` promises, by its exit status.
-use Rattle.std.proofs.Common.{ℕ, ◌≡◌, ◌⊎◌, Bool, Option, Some, None, Result, Ok, Err, IfSome, refl, sym, ◌∙◌, ap, subst, inl, inr, arith}
+use Rattle.std.proofs.Common.{ℕ, ◌≡◌, ◌⊎◌, Bool, Result, Ok, Err, refl, sym, ◌∙◌, ap, subst, inl, inr, arith}
 use Rattle.std.specs.Prelude.{IsOkAnd, IsErrAnd}
 use Rattle.rp_base.specs.Answers.{Gives}
 use Rattle.rp_base.specs.declared.seen.Seen.{Seen}
 use Rattle.rp_disk.specs.History.{History, held}
+use Rattle.rp_disk.specs.Made.{history_of}
 use Rattle.rp_gpt.specs.Shown.{accepted}
 use Rattle.rp_gpt.specs.declared.table_fault.Empty.TheVariants.{Refuse}
 use Rattle.rp_gpt.specs.declared.table_fault.TableFault.{TableFault}
@@ -11,7 +12,7 @@ use Rattle.rp_gpt.specs.declared.table_fault.TableFault.TheVariants as faults
 use Rattle.rp_outcome.specs.Output.{Output, Finishes, Refuses}
 use Rattle.rp_outcome.specs.Refusals.{disk_refusal, table_refusal}
 use Rattle.rp_report.specs.Reports.{show_report}
-use Rattle.rp_outcome.specs.Device.{Device, IsOnlyRead, history}
+use Rattle.rp_outcome.specs.Device.{Device, IsOnlyRead, Known}
 use Rattle.rp_show.specs.Shows.{ByStatus, Reads, Shows, Tells}
 
 -- the answer is the definition's, but for a failure of the disk and want of memory
@@ -38,32 +39,29 @@ fault_status (faults.Overlap a b) = inl refl
 fault_status faults.Memory = inr (inr refl)
 
 -- an image whose table was read is accepted so
-accepted_ok : (o : Option History) (sector : ℕ) (seen : Seen) (P : Seen → Type 0)
-    → IfSome o (IsAnswer sector (Ok seen))
-    → P seen → IfSome o (λ h. IsOkAnd (accepted sector (held h) Refuse) P)
-accepted_ok None sector seen P answer p = tt
-accepted_ok (Some h) sector seen P (inl e) p = absurd (cc)
-accepted_ok (Some h) sector seen P (inr (inl e)) p = subst (λ (answer : Result Seen TableFault). IsOkAnd answer P) e p
-accepted_ok (Some h) sector seen P (inr (inr e)) p = absurd (cc)
+accepted_ok : (disk later : Device) (sector : ℕ) (seen : Seen) (P : Seen → Type 0) → Known disk later (IsAnswer sector (Ok seen))
+    → P seen → Known disk later (λ h. IsOkAnd (accepted sector (held h) Refuse) P)
+accepted_ok disk later sector seen P answer p = λ past can. of_one (history_of past disk.calls) (answer past can) where
+  of_one : (h : History) → IsAnswer sector (Ok seen) h → IsOkAnd (accepted sector (held h) Refuse) P
+  of_one h (inl e) = absurd (cc)
+  of_one h (inr (inl e)) = subst (λ (answer : Result Seen TableFault). IsOkAnd answer P) e p
+  of_one h (inr (inr e)) = absurd (cc)
+
+same : (a b : TableFault) → ◌≡◌ {A = Result Seen TableFault} (Err a) (Err b) → a ≡ b
+same a b e = cc
 
 -- an image that was refused isn't accepted, for that reason
-accepted_err : (o : Option History) (sector : ℕ) (fault : TableFault) (P : TableFault → Type 0) → (table_refusal fault).status ≡ 4
-    → IfSome o (IsAnswer sector (Err fault))
-    → P fault → IfSome o (λ h. IsErrAnd (accepted sector (held h) Refuse) P)
-accepted_err None sector fault P status answer p = tt
-accepted_err (Some h) sector fault P status (inl e) p = absurd (other fault (same fault faults.Disk e) status) where
-  same : (a b : TableFault) → ◌≡◌ {A = Result Seen TableFault} (Err a) (Err b) → a ≡ b
-  same a b e = cc
+accepted_err : (disk later : Device) (sector : ℕ) (fault : TableFault) (P : TableFault → Type 0) → (table_refusal fault).status ≡ 4
+    → Known disk later (IsAnswer sector (Err fault))
+    → P fault → Known disk later (λ h. IsErrAnd (accepted sector (held h) Refuse) P)
+accepted_err disk later sector fault P status answer p = λ past can. of_one (history_of past disk.calls) (answer past can) where
+  other : (that : TableFault) (number : ℕ) → (table_refusal that).status ≡ number → (number ≡ 4 → ⊥) → fault ≡ that → ⊥
+  other that number is differ e = differ (sym is ∙ sym (ap (λ fault. (table_refusal fault).status) e) ∙ status)
 
-  other : (fault : TableFault) → fault ≡ faults.Disk → (table_refusal fault).status ≡ 4 → ⊥
-  other fault e status = let h : ◌≡◌ {A = ℕ} 7 4 = sym (ap (λ fault. (table_refusal fault).status) e) ∙ status in omega arith
-accepted_err (Some h) sector fault P status (inr (inl e)) p = subst (λ (answer : Result Seen TableFault). IsErrAnd answer P) e p
-accepted_err (Some h) sector fault P status (inr (inr e)) p = absurd (other fault (same fault faults.Memory e) status) where
-  same : (a b : TableFault) → ◌≡◌ {A = Result Seen TableFault} (Err a) (Err b) → a ≡ b
-  same a b e = cc
-
-  other : (fault : TableFault) → fault ≡ faults.Memory → (table_refusal fault).status ≡ 4 → ⊥
-  other fault e status = let h : ◌≡◌ {A = ℕ} 10 4 = sym (ap (λ fault. (table_refusal fault).status) e) ∙ status in omega arith
+  of_one : (h : History) → IsAnswer sector (Err fault) h → IsErrAnd (accepted sector (held h) Refuse) P
+  of_one h (inl e) = absurd (other faults.Disk 7 refl (λ f. omega arith) (same fault faults.Disk e))
+  of_one h (inr (inl e)) = subst (λ (answer : Result Seen TableFault). IsErrAnd answer P) e p
+  of_one h (inr (inr e)) = absurd (other faults.Memory 10 refl (λ f. omega arith) (same fault faults.Memory e))
 
 -- two numbers that differ are no one status
 clash : {P : Type 0} (status a b : ℕ) → status ≡ a → status ≡ b → (a ≡ b → ⊥) → P
@@ -101,7 +99,7 @@ by_finish sector json disk later out after status seen reads (inl (e, printed)) 
     sink_kept = λ f. printed.kept;
   };
   one_of = inl e;
-  done = λ f. accepted_ok (history disk) sector seen _ reads.accepted printed;
+  done = λ f. accepted_ok disk later sector seen _ reads.accepted printed;
   cut = λ f. clash status 0 9 e f (λ h. omega arith);
   refused = λ f. clash status 0 4 e f (λ h. omega arith);
   disk_line = λ f. clash status 0 7 e f (λ h. omega arith);
@@ -116,7 +114,7 @@ by_finish sector json disk later out after status seen reads (inr (e, printed)) 
   };
   one_of = inr (inr (inr (inl e)));
   done = λ f. clash status 9 0 e f (λ h. omega arith);
-  cut = λ f. accepted_ok (history disk) sector seen _ reads.accepted printed;
+  cut = λ f. accepted_ok disk later sector seen _ reads.accepted printed;
   refused = λ f. clash status 9 4 e f (λ h. omega arith);
   disk_line = λ f. clash status 9 7 e f (λ h. omega arith);
 }
@@ -157,7 +155,7 @@ by_image sector json disk later out after status fault image reads refuses = let
   one_of = inr (inl e);
   done = λ f. clash status 4 0 e f (λ h. omega arith);
   cut = λ f. clash status 4 9 e f (λ h. omega arith);
-  refused = λ f. accepted_err (history disk) sector fault _ image reads.accepted refuses.printed;
+  refused = λ f. accepted_err disk later sector fault _ image reads.accepted refuses.printed;
   disk_line = λ f. clash status 4 7 e f (λ h. omega arith);
 }
 

@@ -1,5 +1,5 @@
 -- What `show` does.
-use Rattle.std.specs.Prelude.{ℕ, ◌≡◌, ◌⊎◌, Bool, Result, Ok, Err, IfSome, IsOkAnd, IsErrAnd}
+use Rattle.std.specs.Prelude.{ℕ, ◌≡◌, ◌⊎◌, Bool, Result, Ok, Err, IsOkAnd, IsErrAnd}
 use Rattle.rp_base.specs.Answers.{Gives}
 use Rattle.rp_base.specs.Faults.{Rose}
 use Rattle.rp_base.specs.declared.seen.Seen.{Seen}
@@ -13,13 +13,13 @@ use Rattle.rp_outcome.specs.Refusals.{disk_refusal, line_of, memory_refusal, tab
 use Rattle.rp_outcome.specs.Statuses as exit
 use Rattle.rp_report.specs.Reports.{show_report}
 use Rattle.rp_outcome.specs.Causes.{HasCauses}
-use Rattle.rp_outcome.specs.Device.{Device, IsOnlyRead, history}
+use Rattle.rp_outcome.specs.Device.{Device, IsOnlyRead, Known}
 
 -- a disk was read alone, with this answer: what the image shows where the disk tells it, but for a failure of the disk,
 -- which it counted, and want of memory
 pub record Reads (sector : ℕ) (before now : Device) (answer : Result Seen TableFault) : Type 0 where
   pub only_read : IsOnlyRead before now
-  pub accepted : IfSome (history before) (λ h. (answer ≡ Err faults.Disk) ⊎ Gives faults.Memory (accepted sector (held h) Refuse) answer)
+  pub accepted : Known before now (λ h. (answer ≡ Err faults.Disk) ⊎ Gives faults.Memory (accepted sector (held h) Refuse) answer)
   pub failed : answer ≡ Err faults.Disk → Rose before.faults now.faults
   pub kept : (answer ≡ Err faults.Disk) ⊎ (now.faults ≡ before.faults)
 
@@ -39,10 +39,10 @@ pub record ByStatus (sector : ℕ) (json : Bool) (disk later : Device) (out afte
   pub only_read : IsOnlyRead disk later
   pub causes : HasCauses disk later out after status
   pub one_of : (status ≡ exit.done) ⊎ (status ≡ exit.image) ⊎ (status ≡ exit.disk) ⊎ (status ≡ exit.sink) ⊎ (status ≡ exit.memory)
-  pub done : status ≡ exit.done → IfSome (history disk) (λ h.
+  pub done : status ≡ exit.done → Known disk later (λ h.
       IsOkAnd (accepted sector (held h) Refuse) (λ seen. PrintsAll out after (show_report json seen)))
-  pub cut : status ≡ exit.sink → IfSome (history disk) (λ h.
+  pub cut : status ≡ exit.sink → Known disk later (λ h.
       IsOkAnd (accepted sector (held h) Refuse) (λ seen. PrintsPart out after (show_report json seen)))
-  pub refused : status ≡ exit.image → IfSome (history disk) (λ h.
+  pub refused : status ≡ exit.image → Known disk later (λ h.
       IsErrAnd (accepted sector (held h) Refuse) (λ fault. Prints out after (line_of (table_refusal fault))))
   pub disk_line : status ≡ exit.disk → Prints out after (line_of disk_refusal)

@@ -1,6 +1,5 @@
 ghost use Rattle.rp_base.specs.Geometry.{IsSector};
 ghost use Rattle.rp_outcome.specs.Output.{output};
-ghost use Rattle.rp_outcome.specs.Device.{device};
 ghost use Rattle.rp_show.specs.Shows.{Shows};
 
 use rp_base::Memory;
@@ -24,7 +23,7 @@ pub fn show<D: Disk, K: Sink>(
 ) -> u8
     requires { IsSector sector }
     ensures { Shows sector json
-        (device D.first D.calls D.faults D.strays disk.old) (device D.first D.calls D.faults D.strays disk.new)
+        (D.device disk.old) (D.device disk.new)
         (output K.told K.faults out.old) (output K.told K.faults out.new) result }
 {
     let seen = match read_at(alloc, disk, Empty::Refuse, sector) {

@@ -8,7 +8,7 @@ use Rattle.rp_base.specs.declared.geometry.Which.TheVariants.{Primary, Backup}
 use Rattle.rp_base.specs.declared.plan.Plan.{Plan}
 use Rattle.rp_disk.specs.Calls.{all_done}
 use Rattle.rp_disk.specs.History.{IsLawful, held}
-use Rattle.rp_disk.specs.Made.{Made, dones, history_of, history_told}
+use Rattle.rp_disk.specs.Made.{Past, Made, dones, history_of, history_told}
 use Rattle.rp_disk.specs.Stops.{Each}
 use Rattle.rp_disk.specs.declared.call.Call.{Call}
 use Rattle.rp_disk.specs.declared.call.Call.TheVariants.{Write, SetLen, Sync as SyncCall}
@@ -43,18 +43,18 @@ unfolding tree_writes
 tree-are hash_at blocks tree = writes-are hash_at (placed tree (order blocks))
 
 -- writes keep the length
-kept : (first : List ℕ) (old new : List Made) (calls : List Call) → new ≡ old ++ dones calls → Each IsWrite calls
+kept : (first : Past) (old new : List Made) (calls : List Call) → new ≡ old ++ dones calls → Each IsWrite calls
     → IfSome (history_told (Some first) new) IsLawful → length (held (history_of first new)) ≡ length (held (history_of first old))
 unfolding SameLength
 kept first old new calls done writes lawful = same_length (Some first) old new calls done writes lawful
 
-now_shown : (first : List ℕ) (old new : List Made) (calls : List Call) → new ≡ old ++ dones calls
+now_shown : (first : Past) (old new : List Made) (calls : List Call) → new ≡ old ++ dones calls
     → held (history_of first new) ≡ all_done (held (history_of first old)) calls
 now_shown first old new calls done =
     ap (λ (l : List Made). held (history_of first l)) done ∙ ap held (history_of-dones first old calls)
     ∙ held-all_did (history_of first old) calls
 
-pub length_after : (plan : Plan) (found : Found) (step : Step) (first : List ℕ) (old new : List Made)
+pub length_after : (plan : Plan) (found : Found) (step : Step) (first : Past) (old new : List Made)
     → new ≡ old ++ dones (calls_with plan found step)
     → IfSome (history_told (Some first) new) IsLawful
     → length (held (history_of first new)) ≡ size_after (length (held (history_of first old))) step
@@ -79,17 +79,17 @@ length_after plan found HeaderBackup first old new done lawful = kept first old 
 length_after plan found Mbr first old new done lawful = kept first old new (mbr_call plan ∷ []) done (refl, tt) lawful
 
 -- no call of the steps so far passed the disk's end, where all lie in it; and the steps that are left do
-unfoldable pub LieSoFar : Plan → Option (List ℕ) → List Step → List Step → List Made → List Made → ℕ → ℕ → Type 0
+unfoldable pub LieSoFar : Plan → Option Past → List Step → List Step → List Made → List Made → ℕ → ℕ → Type 0
 LieSoFar plan first steps left old now before strays = IfSome first (λ bytes. AllLieIn plan (length (held (history_of bytes old))) steps
     → (strays ≡ before) × AllLieIn plan (length (held (history_of bytes now))) left)
 
-pub lie_none : (plan : Plan) (first : Option (List ℕ)) (steps : List Step) (old : List Made) (before : ℕ)
+pub lie_none : (plan : Plan) (first : Option Past) (steps : List Step) (old : List Made) (before : ℕ)
     → LieSoFar plan first steps steps old old before before
 unfolding LieSoFar
 lie_none plan None steps old before = tt
 lie_none plan (Some bytes) steps old before = λ lies. (refl, lies)
 
-pub lie_more : (plan : Plan) (first : Option (List ℕ)) (found : Found) (steps left : List Step) (step : Step) (old mid now : List Made)
+pub lie_more : (plan : Plan) (first : Option Past) (found : Found) (steps left : List Step) (step : Step) (old mid now : List Made)
     (before then strays : ℕ)
     → LieSoFar plan first steps (step ∷ left) old mid before then → now ≡ mid ++ dones (calls_with plan found step)
     → IfSome (history_told first now) IsLawful
@@ -103,14 +103,14 @@ lie_more plan (Some bytes) found steps left step old mid now before then strays 
     (stays all.1.0 ∙ all.0, subst P (sym (length_after plan found step bytes mid now done lawful)) all.1.1)
 
 -- at the end, and at a fault
-pub lie_all : (plan : Plan) (first : Option (List ℕ)) (steps left : List Step) (old now : List Made) (before strays : ℕ)
+pub lie_all : (plan : Plan) (first : Option Past) (steps left : List Step) (old now : List Made) (before strays : ℕ)
     → LieSoFar plan first steps left old now before strays
     → IfSome (history_told first old) (λ h. AllLieIn plan (length (held h)) steps → strays ≡ before)
 unfolding LieSoFar
 lie_all plan None steps left old now before strays so = tt
 lie_all plan (Some bytes) steps left old now before strays so = λ lies. (so lies).0
 
-pub lie_broke : (plan : Plan) (first : Option (List ℕ)) (steps left : List Step) (step : Step) (old mid : List Made)
+pub lie_broke : (plan : Plan) (first : Option Past) (steps left : List Step) (step : Step) (old mid : List Made)
     (before then strays : ℕ)
     → LieSoFar plan first steps (step ∷ left) old mid before then
     → IfSome (history_told first mid) (λ h. LiesIn plan (length (held h)) step → strays ≡ then)
@@ -120,7 +120,7 @@ lie_broke plan None steps left step old mid before then strays so stays = tt
 lie_broke plan (Some bytes) steps left step old mid before then strays so stays = λ lies. let all = so lies in stays all.1.0 ∙ all.0
 
 -- the same at a place of a list of steps
-pub lie_at : {T : Type 0} (plan : Plan) (outside : Outside) (first : Option (List ℕ)) (found : Found) (steps : List Step) (i : ℕ)
+pub lie_at : {T : Type 0} (plan : Plan) (outside : Outside) (first : Option Past) (found : Found) (steps : List Step) (i : ℕ)
     (d : Step)
     (old mid now : List Made) (before then strays : ℕ) (value : T) → i < length steps
     → LieSoFar plan first steps (drop i steps) old mid before then
@@ -131,7 +131,7 @@ lie_at plan outside first found steps i d old mid now before then strays value b
     lie_more plan first found steps (drop (i + 1) steps) (get_or steps i d) old mid now before then strays
     (subst (λ (l : List Step). LieSoFar plan first steps l old mid before then) (drop_more steps i d below) so) makes.ran.ok lawful stays
 
-pub lie_broken_at : {T : Type 0} (plan : Plan) (outside : Outside) (first : Option (List ℕ)) (found : Found) (steps : List Step) (i : ℕ)
+pub lie_broken_at : {T : Type 0} (plan : Plan) (outside : Outside) (first : Option Past) (found : Found) (steps : List Step) (i : ℕ)
     (d : Step)
     (old mid now : List Made) (before then strays : ℕ) (fault : ApplyFault) → i < length steps
     → LieSoFar plan first steps (drop i steps) old mid before then

@@ -7,7 +7,7 @@ use Rattle.std.proofs.lemmas.List.FromFn.{length-map-range_with_len}
 use Rattle.rp_base.specs.Image.{bytes_at}
 use Rattle.rp_disk.specs.Calls.{resized}
 use Rattle.rp_disk.specs.History.{held}
-use Rattle.rp_disk.specs.Made.{Made, history_of}
+use Rattle.rp_disk.specs.Made.{Past, Made, history_of}
 use Rattle.rp_disk.proofs.Agreeing.{length-resized}
 use Rattle.rp_disk.proofs.Ranges.{length-bytes_at}
 use Rattle.rp_fill.specs.Copied.{IsCopyOf, file_bytes}
@@ -51,7 +51,7 @@ resized-same bytes n long =
     ap (λ (m : ℕ). take n bytes ++ replicate m 0) none ∙ append-nil (take n bytes) ∙ take_all n bytes (omega (arith, long))
 
 -- data blocks for a tree
-some_blocks : (tree : TreePlan) (first : Option (List ℕ)) (made : List Made)
+some_blocks : (tree : TreePlan) (first : Option Past) (made : List Made)
     → (blocks : List (List ℕ)) × AreBlocks tree.blocks blocks × AreShown tree first made blocks
 some_blocks tree None made =
     let bytes : List ℕ = replicate (4096 * tree.blocks) 0 in

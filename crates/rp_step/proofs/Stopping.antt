@@ -6,10 +6,11 @@ use Rattle.rp_base.specs.Image.{bytes_at}
 use Rattle.rp_base.specs.Trees.{hash_blocks, levels}
 use Rattle.rp_base.specs.declared.plan.Plan.{Plan}
 use Rattle.rp_disk.specs.History.{History, Did, Failed, IsLawful, held}
-use Rattle.rp_disk.specs.Made.{Made, Done, Broke, after_made, dones, history_of, history_told}
+use Rattle.rp_disk.specs.Made.{Past, Made, dones, history_of, history_told}
 use Rattle.rp_disk.specs.Ranges.{Apart}
 use Rattle.rp_disk.specs.Stops.{Each}
-use Rattle.rp_disk.proofs.Runs.{after_made-append}
+use Rattle.rp_disk.proofs.Noting.{lawful_before}
+use Rattle.rp_disk.proofs.Runs.{history_of-append}
 use Rattle.rp_format.specs.Written.{AreBlocks, IsTreePlan, data_end, hash_calls, hash_end}
 use Rattle.rp_format.specs.declared.tree.TreePlan.{TreePlan}
 use Rattle.rp_format.proofs.Kept.{writes-are}
@@ -36,13 +37,8 @@ ShowsOtherStep image planned copied (Tree data_at hash_at blocks salt uuid root)
 ShowsOtherStep image planned copied other = ⊥
 
 -- what was lawful at first
-lawful_first : (h : History) (made : List Made) → IsLawful (after_made h made) → IsLawful h
-lawful_first h [] lawful = lawful
-lawful_first h (Done call ∷ made) lawful = (lawful_first (Did h call) made lawful).0
-lawful_first h (Broke call after ∷ made) lawful = (lawful_first (Failed h call after) made lawful).0
-
-lawful_front : (first : List ℕ) (front back : List Made) → IsLawful (history_of first (front ++ back)) → IsLawful (history_of first front)
-lawful_front first front back lawful = lawful_first (history_of first front) back (subst IsLawful (after_made-append _ front back) lawful)
+lawful_front : (first : Past) (front back : List Made) → IsLawful (history_of first (front ++ back)) → IsLawful (history_of first front)
+lawful_front first front back lawful = lawful_before first.left (history_of first front) back (subst IsLawful (history_of-append first front back) lawful)
 
 -- the calls that were made go on from those at the start
 goes_on : (plan : Plan) (founds : List Found) (steps : List Step) (planned copied : List ℕ) (old new : List Made)
@@ -99,7 +95,7 @@ data_apart tree taken plan are =
       by (inl before) whole = inl before
       by (inr behind) whole = inr (omega (arith, behind, whole))
 
-module _ (plan : Plan) (outside : Outside) (first : List ℕ) (shows : outside.first ≡ Some first) where
+module _ (plan : Plan) (outside : Outside) (first : Past) (shows : outside.first ≡ Some first) where
   one : (found : Found) (step : Step) (planned copied : List ℕ) (made new : List Made) → IsFound outside made found step
       → CanMake outside.paths step
       → LiesIn plan (length (held (history_of first made))) step → IsLawful (history_of first new)
@@ -108,7 +104,7 @@ module _ (plan : Plan) (outside : Outside) (first : List ℕ) (shows : outside.f
   unfolding SameRange
   one found (Tree data_at hash_at blocks salt uuid root) planned copied made new is can lies lawful other =
       let tree = tree_of data_at hash_at blocks salt uuid root in
-      let P : Option (List ℕ) → Type 0 = λ f. IfSome (history_told f made) (λ h. data_end tree ≤ length (held h)
+      let P : Option Past → Type 0 = λ f. IfSome (history_told f made) (λ h. data_end tree ≤ length (held h)
       → found.blocks ≡ cut blocks (bytes_at (held h) data_at (4096 * blocks))) in
       let taken : found.blocks ≡ cut blocks (bytes_at (held (history_of first made)) data_at (4096 * blocks)) = subst P shows is.1
       lies.0 in

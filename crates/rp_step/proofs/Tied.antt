@@ -5,7 +5,7 @@ use Rattle.rp_base.specs.Image.{bytes_at}
 use Rattle.rp_base.specs.declared.plan.Plan.{Plan}
 use Rattle.rp_disk.specs.Calls.{all_done, resized}
 use Rattle.rp_disk.specs.History.{held}
-use Rattle.rp_disk.specs.Made.{Made, dones, history_of, history_told}
+use Rattle.rp_disk.specs.Made.{Past, Made, dones, history_of, history_told}
 use Rattle.rp_disk.specs.declared.call.Call.{Call}
 use Rattle.rp_disk.specs.declared.call.Call.TheVariants.{Write}
 use Rattle.rp_disk.proofs.Runs.{history_of-dones, held-all_did}
@@ -41,7 +41,7 @@ copied_is told files path len bytes is copy =
     let P : Option (List Stored) → Type 0 = λ t. IfSome t (λ f. bytes ≡ resized (file_bytes f path) len) in
     subst P is copy.same
 
-module _ (plan : Plan) (outside : Outside) (files : List Stored) (first : List ℕ) (told : outside.told ≡ Some files)
+module _ (plan : Plan) (outside : Outside) (files : List Stored) (first : Past) (told : outside.told ≡ Some files)
     (shows : outside.first ≡ Some first) where
   abbrev sources : Sources
   sources = sources_in files outside.paths
@@ -54,7 +54,7 @@ module _ (plan : Plan) (outside : Outside) (files : List Stored) (first : List �
       → cut blocks (bytes_at (held (history_of first made)) data_at (4096 * blocks)) ≡ cut blocks (payload_at plan sources data_at)
       → taken ≡ cut blocks (payload_at plan sources data_at)
   blocks_are made data_at hash_at blocks salt taken are reaches laid =
-      let P : Option (List ℕ) → Type 0 = λ f. IfSome (history_told f made) (λ h. data_at + 4096 * blocks ≤ length (held h)
+      let P : Option Past → Type 0 = λ f. IfSome (history_told f made) (λ h. data_at + 4096 * blocks ≤ length (held h)
       → taken ≡ cut blocks (bytes_at (held h) data_at (4096 * blocks))) in
       subst P shows are reaches ∙ laid
 

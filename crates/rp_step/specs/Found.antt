@@ -2,7 +2,7 @@
 use Rattle.std.specs.Prelude.{ℕ, ◌≡◌, ◌+◌, ◌*◌, ◌^◌, ◌<◌, ◌≤◌, ◌++◌, List, [], ◌∷◌, Option, false, length, ⊤}
 use Rattle.rp_base.specs.declared.guid.Guid.{Guid}
 use Rattle.rp_base.specs.declared.plan.Plan.{Plan}
-use Rattle.rp_disk.specs.Made.{Made, dones}
+use Rattle.rp_disk.specs.Made.{Past, Made, dones}
 use Rattle.rp_disk.specs.declared.call.Call.{Call}
 use Rattle.rp_fill.specs.Copied.{IsCopyOf}
 use Rattle.rp_format.specs.Written.{AreBlocks, AreShown, IsTreePlan, LieIn, tree_calls}
@@ -51,9 +51,9 @@ all_calls plan (found ∷ founds) (step ∷ steps) = calls_with plan found step 
 pub record Outside : Type 0 where
   pub told : Option (List Stored)
   pub paths : List (List ℕ)
-  pub first : Option (List ℕ)
+  pub first : Option Past
 
-abbrev pub outside_of : Option (List Stored) → List (List ℕ) → Option (List ℕ) → Outside
+abbrev pub outside_of : Option (List Stored) → List (List ℕ) → Option Past → Outside
 outside_of told paths first = record { told = told; paths = paths; first = first }
 
 -- a step finds this, on a disk of which these calls were made: a copy so many bytes, those of its file where the sources tell;

@@ -1,9 +1,10 @@
 //! The steps that write into new rows, each with its room.
 
-ghost use Rattle.std.specs.Prelude.{◌≡◌, ◌+◌, ◌^◌, ◌<◌, ◌≤◌, ℕ, List, IfSome, OnOk, false, length, replicate};
+ghost use Rattle.std.specs.Prelude.{Option, ◌≡◌, ◌+◌, ◌^◌, ◌<◌, ◌≤◌, ℕ, List, IfSome, OnOk, false, length, replicate};
 ghost use Rattle.rp_base.specs.Faults.{HasCause};
+ghost use Rattle.rp_disk.specs.Device.{Earlier, IsPossible, StaysInsideWhere, missed_by};
 ghost use Rattle.rp_disk.specs.History.{held};
-ghost use Rattle.rp_disk.specs.Made.{history_told};
+ghost use Rattle.rp_disk.specs.Made.{Past, history_told};
 ghost use Rattle.rp_disk.specs.Runs.{Runs};
 ghost use Rattle.rp_fill.specs.Causes.{HasDiskCause, HasSourceCause};
 ghost use Rattle.rp_fill.specs.Copied.{IsCopyOf};
@@ -25,11 +26,10 @@ pub fn zero<D: Disk>(disk: &mut D, blocks: &mut Blocks, at: u64, len: u64) -> Re
     requires end { at + len < 2 ^ 64 }
     requires leased { IsLeased blocks.old }
     ensures kept { KeepsCopies blocks.old blocks.new }
-    ensures first { D.first disk.new ≡ D.first disk.old }
-    ensures ran { Runs (D.calls disk.old) (in_pieces at (replicate len 0)) (D.calls disk.new) result }
-    ensures strays { IfSome (history_told (D.first disk.old) (D.calls disk.old)) (λ h. at + len ≤ length (held h)
-        → D.strays disk.new ≡ D.strays disk.old) }
-    ensures cause { HasCause (D.faults disk.old) (D.faults disk.new) result }
+    ensures earlier { Earlier (D.device disk.old) (D.device disk.new) }
+    ensures ran { Runs (D.device disk.old).calls (in_pieces at (replicate len 0)) (D.device disk.new).calls result }
+    ensures inside { StaysInsideWhere (D.device disk.old) (D.device disk.new) (λ h. at + len ≤ length (held h)) }
+    ensures cause { HasCause (D.device disk.old).faults (D.device disk.new).faults result }
 {
     let room = blocks.pool.bytes_mut(&blocks.piece);
     write_zeros(disk, at, len, room)
@@ -47,15 +47,14 @@ pub fn copy<D: Disk, S: Sources>(
     requires end { at + len < 2 ^ 64 }
     requires leased { IsLeased blocks.old }
     ensures kept { KeepsCopies blocks.old blocks.new }
-    ensures first { D.first disk.new ≡ D.first disk.old }
+    ensures earlier { Earlier (D.device disk.old) (D.device disk.new) }
     ensures told { S.told sources.new ≡ S.told sources.old }
     ensures ran { (bytes : List ℕ) × IsCopyOf (S.told sources.old) path.now len bytes
-        × Runs (D.calls disk.old) (in_pieces at bytes) (D.calls disk.new) result }
-    ensures disk_strays { IfSome (history_told (D.first disk.old) (D.calls disk.old)) (λ h. at + len ≤ length (held h)
-        → D.strays disk.new ≡ D.strays disk.old) }
+        × Runs (D.device disk.old).calls (in_pieces at bytes) (D.device disk.new).calls result }
+    ensures disk_inside { StaysInsideWhere (D.device disk.old) (D.device disk.new) (λ h. at + len ≤ length (held h)) }
     ensures source_strays { IfSome (S.told sources.old) (λ files. passes (content files path.now) len ≡ false
         → S.strays sources.new ≡ S.strays sources.old) }
-    ensures disk_cause { HasDiskCause (D.faults disk.old) (D.faults disk.new) result }
+    ensures disk_cause { HasDiskCause (D.device disk.old).faults (D.device disk.new).faults result }
     ensures source_cause { HasSourceCause (S.faults sources.old) (S.faults sources.new) result }
 {
     let room = blocks.pool.bytes_mut(&blocks.piece);
@@ -71,11 +70,13 @@ pub fn tree<D: Disk>(
     requires plan { IsTreePlan tree.now }
     requires leased { IsLeased blocks.old }
     ensures kept { KeepsCopies blocks.old blocks.new }
-    ensures first { D.first disk.new ≡ D.first disk.old }
-    ensures written { WritesTree tree.now (D.first disk.old) (D.calls disk.old) (D.calls disk.new) result }
-    ensures strays { IfSome (history_told (D.first disk.old) (D.calls disk.old)) (λ h. LieIn tree.now (length (held h))
-        → D.strays disk.new ≡ D.strays disk.old) }
-    ensures cause { HasCause (D.faults disk.old) (D.faults disk.new) result }
+    ensures earlier { Earlier (D.device disk.old) (D.device disk.new) }
+    ensures written { (o : Option Past) → IsPossible o (D.device disk.new)
+        → WritesTree tree.now o (D.device disk.old).calls (D.device disk.new).calls result }
+    ensures strays { (o : Option Past) → IsPossible o (D.device disk.new)
+        → IfSome (history_told o (D.device disk.old).calls) (λ h. LieIn tree.now (length (held h))
+        → missed_by o (D.device disk.new).answers ≡ missed_by o (D.device disk.old).answers) }
+    ensures cause { HasCause (D.device disk.old).faults (D.device disk.new).faults result }
 {
     let room = blocks.pool.bytes_mut(&blocks.levels);
     write_tree(disk, tree, room)

@@ -1,9 +1,9 @@
 //! The steps that no source and no data row has a part in, and that need no room.
 
-ghost use Rattle.std.specs.Prelude.{◌≡◌, ◌*◌, ◌≤◌, ◌∷◌, [], IfSome, length};
+ghost use Rattle.std.specs.Prelude.{◌≡◌, ◌*◌, ◌≤◌, ◌∷◌, [], length};
 ghost use Rattle.rp_base.specs.Faults.{HasCause};
+ghost use Rattle.rp_disk.specs.Device.{Earlier, StaysInsideWhere};
 ghost use Rattle.rp_disk.specs.History.{held};
-ghost use Rattle.rp_disk.specs.Made.{history_told};
 ghost use Rattle.rp_disk.specs.Runs.{Runs};
 ghost use Rattle.rp_stops.specs.Order.{array_call, header_call};
 ghost use Rattle.rp_step.specs.Stocked.{CanWrite, IsStocked};
@@ -23,11 +23,10 @@ pub fn array<D: Disk>(
 ) -> Result<(), Failed>
     requires stocked { IsStocked plan.now blocks.now }
     requires goal { CanWrite plan.now }
-    ensures first { D.first disk.new ≡ D.first disk.old }
-    ensures ran { Runs (D.calls disk.old) (array_call plan.now which ∷ []) (D.calls disk.new) result }
-    ensures strays { IfSome (history_told (D.first disk.old) (D.calls disk.old)) (λ h. 512 * plan.now.target ≤ length (held h)
-        → D.strays disk.new ≡ D.strays disk.old) }
-    ensures cause { HasCause (D.faults disk.old) (D.faults disk.new) result }
+    ensures earlier { Earlier (D.device disk.old) (D.device disk.new) }
+    ensures ran { Runs (D.device disk.old).calls (array_call plan.now which ∷ []) (D.device disk.new).calls result }
+    ensures inside { StaysInsideWhere (D.device disk.old) (D.device disk.new) (λ h. 512 * plan.now.target ≤ length (held h)) }
+    ensures cause { HasCause (D.device disk.old).faults (D.device disk.new).faults result }
 {
     write_array(disk, plan, which, copy_for(blocks, plan, which))
 }
@@ -41,11 +40,10 @@ pub fn header<D: Disk>(
 ) -> Result<(), Failed>
     requires stocked { IsStocked plan.now blocks.now }
     requires goal { CanWrite plan.now }
-    ensures first { D.first disk.new ≡ D.first disk.old }
-    ensures ran { Runs (D.calls disk.old) (header_call plan.now which ∷ []) (D.calls disk.new) result }
-    ensures strays { IfSome (history_told (D.first disk.old) (D.calls disk.old)) (λ h. 512 * plan.now.target ≤ length (held h)
-        → D.strays disk.new ≡ D.strays disk.old) }
-    ensures cause { HasCause (D.faults disk.old) (D.faults disk.new) result }
+    ensures earlier { Earlier (D.device disk.old) (D.device disk.new) }
+    ensures ran { Runs (D.device disk.old).calls (header_call plan.now which ∷ []) (D.device disk.new).calls result }
+    ensures inside { StaysInsideWhere (D.device disk.old) (D.device disk.new) (λ h. 512 * plan.now.target ≤ length (held h)) }
+    ensures cause { HasCause (D.device disk.old).faults (D.device disk.new).faults result }
 {
     write_header(disk, plan, which, copy_for(blocks, plan, which))
 }

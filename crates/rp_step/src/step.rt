@@ -1,7 +1,8 @@
-ghost use Rattle.std.specs.Prelude.{◌≡◌, IfSome, length};
+ghost use Rattle.std.specs.Prelude.{Option, ◌≡◌, IfSome, length};
 ghost use Rattle.rp_base.specs.Faults.{HasCause};
+ghost use Rattle.rp_disk.specs.Device.{Earlier, IsPossible, StaysInsideWhere, missed_by};
 ghost use Rattle.rp_disk.specs.History.{held};
-ghost use Rattle.rp_disk.specs.Made.{history_told};
+ghost use Rattle.rp_disk.specs.Made.{Past, history_told};
 ghost use Rattle.rp_disk.specs.Runs.{Runs};
 ghost use Rattle.rp_step.specs.Causes.{HasDiskCause, HasSourceCause};
 ghost use Rattle.rp_step.specs.Found.{CanMake, Found, HasFile, IsFixed, LiesIn, calls_with, nothing_found, outside_of};
@@ -34,15 +35,16 @@ pub fn make_step<D: Disk, S: Sources>(
     requires stocked { IsStocked plan.now blocks.old }
     requires can { CanMake paths.now step.now }
     ensures stocked { IsStocked plan.now blocks.new }
-    ensures first { D.first disk.new ≡ D.first disk.old }
+    ensures earlier { Earlier (D.device disk.old) (D.device disk.new) }
     ensures told { S.told sources.new ≡ S.told sources.old }
-    ensures made { (found : Found) × MakesStep plan.now (outside_of (S.told sources.old) paths.now (D.first disk.old)) step.now found
-        (D.calls disk.old) (D.calls disk.new) result }
-    ensures disk_strays { IfSome (history_told (D.first disk.old) (D.calls disk.old))
-        (λ h. LiesIn plan.now (length (held h)) step.now → D.strays disk.new ≡ D.strays disk.old) }
+    ensures made { (o : Option Past) → IsPossible o (D.device disk.new)
+        → (found : Found) × MakesStep plan.now (outside_of (S.told sources.old) paths.now o) step.now found
+        (D.device disk.old).calls (D.device disk.new).calls result }
+    ensures disk_strays { (o : Option Past) → IsPossible o (D.device disk.new) → IfSome (history_told o (D.device disk.old).calls)
+        (λ h. LiesIn plan.now (length (held h)) step.now → missed_by o (D.device disk.new).answers ≡ missed_by o (D.device disk.old).answers) }
     ensures source_strays { IfSome (S.told sources.old) (λ files. HasFile files paths.now step.now
         → S.strays sources.new ≡ S.strays sources.old) }
-    ensures disk_cause { HasDiskCause (D.faults disk.old) (D.faults disk.new) result }
+    ensures disk_cause { HasDiskCause (D.device disk.old).faults (D.device disk.new).faults result }
     ensures source_cause { HasSourceCause (S.faults sources.old) (S.faults sources.new) result }
 {
     match *step {
@@ -82,11 +84,10 @@ fn make_fixed<D: Disk>(
     requires stocked { IsStocked plan.now blocks.old }
     requires fixed { IsFixed step.now }
     ensures stocked { IsStocked plan.now blocks.new }
-    ensures first { D.first disk.new ≡ D.first disk.old }
-    ensures ran { Runs (D.calls disk.old) (calls_with plan.now nothing_found step.now) (D.calls disk.new) result }
-    ensures strays { IfSome (history_told (D.first disk.old) (D.calls disk.old)) (λ h. LiesIn plan.now (length (held h)) step.now
-        → D.strays disk.new ≡ D.strays disk.old) }
-    ensures cause { HasCause (D.faults disk.old) (D.faults disk.new) result }
+    ensures earlier { Earlier (D.device disk.old) (D.device disk.new) }
+    ensures ran { Runs (D.device disk.old).calls (calls_with plan.now nothing_found step.now) (D.device disk.new).calls result }
+    ensures inside { StaysInsideWhere (D.device disk.old) (D.device disk.new) (λ h. LiesIn plan.now (length (held h)) step.now) }
+    ensures cause { HasCause (D.device disk.old).faults (D.device disk.new).faults result }
 {
     match *step {
         Step::Grow { len } => disk.set_len(len),

@@ -1,6 +1,7 @@
-ghost use Rattle.std.specs.Prelude.{◌≡◌, All, IfSome, length};
+ghost use Rattle.std.specs.Prelude.{Option, ◌≡◌, All, IfSome, length};
+ghost use Rattle.rp_disk.specs.Device.{Earlier, IsPossible, missed_by};
 ghost use Rattle.rp_disk.specs.History.{held};
-ghost use Rattle.rp_disk.specs.Made.{history_told};
+ghost use Rattle.rp_disk.specs.Made.{Past, history_told};
 ghost use Rattle.rp_step.specs.Causes.{HasDiskCause, HasSourceCause};
 ghost use Rattle.rp_step.specs.Found.{CanMake, Found, HasFile, outside_of};
 ghost use Rattle.rp_step.specs.Run.{AllLieIn, MakesSteps};
@@ -27,16 +28,16 @@ pub fn make_steps<D: Disk, S: Sources>(
     requires stocked { IsStocked plan.now blocks.old }
     requires can { All (CanMake paths.now) steps.now }
     ensures stocked { IsStocked plan.now blocks.new }
-    ensures first { D.first disk.new ≡ D.first disk.old }
+    ensures earlier { Earlier (D.device disk.old) (D.device disk.new) }
     ensures told { S.told sources.new ≡ S.told sources.old }
-    ensures made { (founds : List Found) × MakesSteps plan.now
-        (outside_of (S.told sources.old) paths.now (D.first disk.old)) steps.now founds
-        (D.calls disk.old) (D.calls disk.new) result }
-    ensures disk_strays { IfSome (history_told (D.first disk.old) (D.calls disk.old))
-        (λ h. AllLieIn plan.now (length (held h)) steps.now → D.strays disk.new ≡ D.strays disk.old) }
+    ensures made { (o : Option Past) → IsPossible o (D.device disk.new) → (founds : List Found) × MakesSteps plan.now
+        (outside_of (S.told sources.old) paths.now o) steps.now founds
+        (D.device disk.old).calls (D.device disk.new).calls result }
+    ensures disk_strays { (o : Option Past) → IsPossible o (D.device disk.new) → IfSome (history_told o (D.device disk.old).calls)
+        (λ h. AllLieIn plan.now (length (held h)) steps.now → missed_by o (D.device disk.new).answers ≡ missed_by o (D.device disk.old).answers) }
     ensures source_strays { IfSome (S.told sources.old) (λ files. All (HasFile files paths.now) steps.now
         → S.strays sources.new ≡ S.strays sources.old) }
-    ensures disk_cause { HasDiskCause (D.faults disk.old) (D.faults disk.new) result }
+    ensures disk_cause { HasDiskCause (D.device disk.old).faults (D.device disk.new).faults result }
     ensures source_cause { HasSourceCause (S.faults sources.old) (S.faults sources.new) result }
 {
     for step in steps {

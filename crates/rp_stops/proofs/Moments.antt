@@ -1,5 +1,5 @@
 -- The law over a disk at any moment, and over two plans, one after the other.
-use Rattle.std.proofs.Common.{◌≡◌, ℕ, ◌⊎◌, List, [], ◌∷◌, ◌++◌, Some, refl, sym, ap, ◌∙◌, subst, inl, inr, append_assoc}
+use Rattle.std.proofs.Common.{◌≡◌, ℕ, ◌⊎◌, List, [], ◌∷◌, ◌++◌, refl, sym, ap, ◌∙◌, subst, inl, inr, append_assoc}
 use Rattle.rp_base.specs.declared.plan.Plan.{Plan}
 use Rattle.rp_base.specs.declared.seen.Seen.{Seen}
 use Rattle.rp_disk.specs.declared.call.Call.{Call}
@@ -8,7 +8,7 @@ use Rattle.rp_disk.specs.Blocks.{blocks_done, flat}
 use Rattle.rp_disk.specs.Calls.{all_done, pending, settled}
 use Rattle.rp_disk.specs.History.{IsSettled, LeftSince, MayLeave, moment}
 use Rattle.rp_disk.specs.History as history
-use Rattle.rp_disk.specs.Made.{Made, history_of}
+use Rattle.rp_disk.specs.Made.{Made, Past, history_of}
 use Rattle.rp_disk.specs.Runs.{AtAnyMoment, AtAnyMomentBehindSync}
 use Rattle.rp_disk.specs.Stops.{Agrees, IsFrontOf, Leaves}
 use Rattle.rp_disk.proofs.Blocks.{all_done-flat, pending-block, settled-block}
@@ -20,32 +20,32 @@ use Rattle.rp_stops.proofs.Carried.{alone}
 use Rattle.rp_stops.proofs.Stages.{Honest}
 
 -- where nothing was pending at the start
-pub any_moment : (sector : ℕ) (bytes : List ℕ) (empty : Empty) (seen : Seen) (plan : Plan) (body calls : List Call) (old now : List Made)
-    → AtAnyMoment (Some bytes) old calls now → IsSettled (history_of bytes old)
-    → IsPlanFor sector (history.held (history_of bytes old)) empty seen plan → AreCallsOf seen plan body calls
-    → (made : List Call) (image : List ℕ) → LeftSince (history_of bytes now) (moment (history_of bytes old)) made image
-    → IsTornHonest sector (history.held (history_of bytes old)) made image
-    → StopsAlone sector (history.held (history_of bytes old)) seen plan body image
-any_moment sector bytes empty seen plan body calls old now at_any settled_start is are made image since honest =
-    let made_so = at_any settled_start made image since in
-    alone sector (history.held (history_of bytes old)) empty seen plan body calls made image is are made_so.0 made_so.1 honest
+pub any_moment : (sector : ℕ) (past : Past) (empty : Empty) (seen : Seen) (plan : Plan) (body calls : List Call) (old now : List Made)
+    → AtAnyMoment old calls now → IsSettled (history_of past old)
+    → IsPlanFor sector (history.held (history_of past old)) empty seen plan → AreCallsOf seen plan body calls
+    → (made : List Call) (image : List ℕ) → LeftSince (history_of past now) (moment (history_of past old)) made image
+    → IsTornHonest sector (history.held (history_of past old)) made image
+    → StopsAlone sector (history.held (history_of past old)) seen plan body image
+any_moment sector past empty seen plan body calls old now at_any settled_start is are made image since honest =
+    let made_so = at_any past settled_start made image since in
+    alone sector (history.held (history_of past old)) empty seen plan body calls made image is are made_so.0 made_so.1 honest
 
 -- behind a sync, from any start
-pub behind_sync : (sector : ℕ) (bytes : List ℕ) (empty : Empty) (seen : Seen) (plan : Plan) (body calls : List Call) (old now : List Made)
-    → AtAnyMomentBehindSync (Some bytes) old calls now
-    → IsPlanFor sector (history.held (history_of bytes old)) empty seen plan → AreCallsOf seen plan body calls
-    → (made : List Call) (image : List ℕ) → LeftSince (history_of bytes now) (moment (history_of bytes old)) made image
-    → MayLeave (history_of bytes old) image
-    ⊎ ((more : List Call) × (made ≡ Sync ∷ more) × (IsTornHonest sector (history.held (history_of bytes old)) more image
-    → StopsAlone sector (history.held (history_of bytes old)) seen plan body image))
-behind_sync sector bytes empty seen plan body calls old now at_any is are made image since = elim (at_any made image since) [
+pub behind_sync : (sector : ℕ) (past : Past) (empty : Empty) (seen : Seen) (plan : Plan) (body calls : List Call) (old now : List Made)
+    → AtAnyMomentBehindSync old calls now
+    → IsPlanFor sector (history.held (history_of past old)) empty seen plan → AreCallsOf seen plan body calls
+    → (made : List Call) (image : List ℕ) → LeftSince (history_of past now) (moment (history_of past old)) made image
+    → MayLeave (history_of past old) image
+    ⊎ ((more : List Call) × (made ≡ Sync ∷ more) × (IsTornHonest sector (history.held (history_of past old)) more image
+    → StopsAlone sector (history.held (history_of past old)) seen plan body image))
+behind_sync sector past empty seen plan body calls old now at_any is are made image since = elim (at_any past made image since) [
   | inl before ↦ inl before
   | inr behind ↦
       inr (
         behind.0,
         behind.1,
         λ honest.
-            alone sector (history.held (history_of bytes old)) empty seen plan body calls behind.0 image is are behind.2 behind.3 honest,
+            alone sector (history.held (history_of past old)) empty seen plan body calls behind.0 image is are behind.2 behind.3 honest,
       )
 ]
 

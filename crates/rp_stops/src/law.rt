@@ -8,7 +8,7 @@ ghost use Rattle.rp_base.specs.declared.seen.Seen.{Seen};
 ghost use Rattle.rp_disk.specs.Calls.{all_done};
 ghost use Rattle.rp_disk.specs.History as history;
 ghost use Rattle.rp_disk.specs.History.{IsSettled, LeftSince, MayLeave, moment};
-ghost use Rattle.rp_disk.specs.Made.{Made, history_of};
+ghost use Rattle.rp_disk.specs.Made.{Made, Past, history_of};
 ghost use Rattle.rp_disk.specs.Runs.{AtAnyMoment, AtAnyMomentBehindSync};
 ghost use Rattle.rp_disk.specs.declared.call.Call.{Call};
 ghost use Rattle.rp_disk.specs.Stops.{IsFrontOf, Leaves};
@@ -67,21 +67,21 @@ pub fn stops_of_whole_sectors()
 /// a stop since might have left is safe. Where it makes a sync first, from any start: the image could have been left at the
 /// start already, or it is safe.
 pub fn any_moment_is_safe()
-    ensures settled { (sector : ℕ) (bytes : List ℕ) (empty : Empty) (seen : Seen) (plan : Plan) (body calls : List Call)
+    ensures settled { (sector : ℕ) (past : Past) (empty : Empty) (seen : Seen) (plan : Plan) (body calls : List Call)
         (old now : List Made)
-        → AtAnyMoment (Some bytes) old calls now → IsSettled (history_of bytes old)
-        → IsPlanFor sector (history.held (history_of bytes old)) empty seen plan → AreCallsOf seen plan body calls
-        → (made : List Call) (image : List ℕ) → LeftSince (history_of bytes now) (moment (history_of bytes old)) made image
-        → IsTornHonest sector (history.held (history_of bytes old)) made image
-        → StopsAlone sector (history.held (history_of bytes old)) seen plan body image }
-    ensures behind_sync { (sector : ℕ) (bytes : List ℕ) (empty : Empty) (seen : Seen) (plan : Plan) (body calls : List Call)
+        → AtAnyMoment old calls now → IsSettled (history_of past old)
+        → IsPlanFor sector (history.held (history_of past old)) empty seen plan → AreCallsOf seen plan body calls
+        → (made : List Call) (image : List ℕ) → LeftSince (history_of past now) (moment (history_of past old)) made image
+        → IsTornHonest sector (history.held (history_of past old)) made image
+        → StopsAlone sector (history.held (history_of past old)) seen plan body image }
+    ensures behind_sync { (sector : ℕ) (past : Past) (empty : Empty) (seen : Seen) (plan : Plan) (body calls : List Call)
         (old now : List Made)
-        → AtAnyMomentBehindSync (Some bytes) old calls now → IsPlanFor sector (history.held (history_of bytes old)) empty seen plan
+        → AtAnyMomentBehindSync old calls now → IsPlanFor sector (history.held (history_of past old)) empty seen plan
         → AreCallsOf seen plan body calls
-        → (made : List Call) (image : List ℕ) → LeftSince (history_of bytes now) (moment (history_of bytes old)) made image
-        → MayLeave (history_of bytes old) image ⊎ ((more : List Call) × (made ≡ Call.Sync ∷ more)
-        × (IsTornHonest sector (history.held (history_of bytes old)) more image
-        → StopsAlone sector (history.held (history_of bytes old)) seen plan body image)) }
+        → (made : List Call) (image : List ℕ) → LeftSince (history_of past now) (moment (history_of past old)) made image
+        → MayLeave (history_of past old) image ⊎ ((more : List Call) × (made ≡ Call.Sync ∷ more)
+        × (IsTornHonest sector (history.held (history_of past old)) more image
+        → StopsAlone sector (history.held (history_of past old)) seen plan body image)) }
 {}
 
 /// Two plans are carried out, one after the other: a stop is one in the first, or one in the second on the image that the first

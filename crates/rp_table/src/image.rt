@@ -1,12 +1,12 @@
 //! What is read of an image.
 
-ghost use Rattle.std.specs.Prelude.{◌≡◌, ◌≢◌, ◌⊎◌, ◌≤◌, ◌+◌, ◌*◌, ◌/◌, ◌%◌, ◌==◌, ◌&&◌, nat_le, IfSome, IfOk, IfErr, Err, length};
+ghost use Rattle.std.specs.Prelude.{◌≡◌, ◌≢◌, ◌⊎◌, ◌≤◌, ◌+◌, ◌*◌, ◌/◌, ◌%◌, ◌==◌, ◌&&◌, nat_le, IfOk, IfErr, Err, length};
 ghost use Rattle.rp_base.specs.Answers.{Gives};
 ghost use Rattle.rp_base.specs.Faults.{Rose};
 ghost use Rattle.rp_base.specs.Geometry.{IsSector, least_sectors as least_sectors_of};
 ghost use Rattle.rp_base.specs.Image.{bytes_at};
+ghost use Rattle.rp_disk.specs.Device.{Earlier, Known, StaysInside, StaysInsideWhere};
 ghost use Rattle.rp_disk.specs.History.{held};
-ghost use Rattle.rp_disk.specs.Made.{history_told};
 ghost use Rattle.rp_gpt.specs.Shown.{accepted, entries_or_least};
 ghost use Rattle.rp_gpt.specs.Accepted.{IsSeen};
 ghost use Rattle.rp_table.specs.Pieces.{IsDisk, IsSized, AreSized, IsPlaceOf, ArePieces};
@@ -30,15 +30,15 @@ const GREATEST_ENTRIES: u16 = 1024;
 
 /// What is seen of the image on a disk with sectors of 512 bytes, or the first fault, as by `read_at`.
 pub fn read<D: Disk>(alloc: Global, disk: &mut D, empty: Empty) -> Result<Seen, TableFault>
-    ensures first { D.first disk.new ≡ D.first disk.old }
-    ensures calls { D.calls disk.new ≡ D.calls disk.old }
-    ensures strays { IfSome (D.first disk.old) (λ _. D.strays disk.new ≡ D.strays disk.old) }
-    ensures answer { IfSome (history_told (D.first disk.old) (D.calls disk.old))
+    ensures earlier { Earlier (D.device disk.old) (D.device disk.new) }
+    ensures calls { (D.device disk.new).calls ≡ (D.device disk.old).calls }
+    ensures inside { StaysInside (D.device disk.old) (D.device disk.new) }
+    ensures answer { Known (D.device disk.old) (D.device disk.new)
         (λ h. (result ≡ Err TableFault.Disk) ⊎ Gives TableFault.Memory (accepted 512 (held h) empty) result) }
-    ensures len { IfSome (history_told (D.first disk.old) (D.calls disk.old))
+    ensures len { Known (D.device disk.old) (D.device disk.new)
         (λ h. IfOk result (λ seen. length (held h) ≡ 512 * seen.sectors)) }
-    ensures fault { result ≡ Err TableFault.Disk → Rose (D.faults disk.old) (D.faults disk.new) }
-    ensures kept { (result ≡ Err TableFault.Disk) ⊎ (D.faults disk.new ≡ D.faults disk.old) }
+    ensures fault { result ≡ Err TableFault.Disk → Rose (D.device disk.old).faults (D.device disk.new).faults }
+    ensures kept { (result ≡ Err TableFault.Disk) ⊎ ((D.device disk.new).faults ≡ (D.device disk.old).faults) }
     ensures seen { IfOk result (λ seen. IsSeen 512 seen) }
     ensures origin { empty ≡ Empty.Refuse → IfOk result (λ seen. seen.origin ≢ Origin.Neither) }
 {
@@ -47,6 +47,7 @@ pub fn read<D: Disk>(alloc: Global, disk: &mut D, empty: Empty) -> Result<Seen, 
 
 /// What is seen of the image on a disk with sectors of 512 or 4,096 bytes, or the first fault. It makes no changing call
 /// and no stray one, and takes memory for the places of both copies and for the rows of the table.
+#[tactic(auto, using(rp_disk::proofs::Noting::earlier_then))]
 pub fn read_at<D: Disk>(
     alloc: Global,
     disk: &mut D,
@@ -54,15 +55,15 @@ pub fn read_at<D: Disk>(
     sector: u32,
 ) -> Result<Seen, TableFault>
     requires { IsSector sector }
-    ensures first { D.first disk.new ≡ D.first disk.old }
-    ensures calls { D.calls disk.new ≡ D.calls disk.old }
-    ensures strays { IfSome (D.first disk.old) (λ _. D.strays disk.new ≡ D.strays disk.old) }
-    ensures answer { IfSome (history_told (D.first disk.old) (D.calls disk.old))
+    ensures earlier { Earlier (D.device disk.old) (D.device disk.new) }
+    ensures calls { (D.device disk.new).calls ≡ (D.device disk.old).calls }
+    ensures inside { StaysInside (D.device disk.old) (D.device disk.new) }
+    ensures answer { Known (D.device disk.old) (D.device disk.new)
         (λ h. (result ≡ Err TableFault.Disk) ⊎ Gives TableFault.Memory (accepted sector (held h) empty) result) }
-    ensures len { IfSome (history_told (D.first disk.old) (D.calls disk.old))
+    ensures len { Known (D.device disk.old) (D.device disk.new)
         (λ h. IfOk result (λ seen. length (held h) ≡ 512 * seen.sectors)) }
-    ensures fault { result ≡ Err TableFault.Disk → Rose (D.faults disk.old) (D.faults disk.new) }
-    ensures kept { (result ≡ Err TableFault.Disk) ⊎ (D.faults disk.new ≡ D.faults disk.old) }
+    ensures fault { result ≡ Err TableFault.Disk → Rose (D.device disk.old).faults (D.device disk.new).faults }
+    ensures kept { (result ≡ Err TableFault.Disk) ⊎ ((D.device disk.new).faults ≡ (D.device disk.old).faults) }
     ensures seen { IfOk result (λ seen. IsSeen sector seen) }
     ensures origin { empty ≡ Empty.Refuse → IfOk result (λ seen. seen.origin ≢ Origin.Neither) }
 {
@@ -89,6 +90,7 @@ fn has_room(len: u64, sector: u32) -> bool
 }
 
 /// The pieces of an image of this many sectors.
+#[tactic(auto, using(rp_disk::proofs::Noting::earlier_then))]
 fn read_pieces<D: Disk>(
     alloc: Global,
     disk: &mut D,
@@ -96,16 +98,15 @@ fn read_pieces<D: Disk>(
     sectors: u64,
 ) -> Result<Pieces, TableFault>
     requires { IsDisk sector sectors }
-    ensures first { D.first disk.new ≡ D.first disk.old }
-    ensures calls { D.calls disk.new ≡ D.calls disk.old }
-    ensures strays { IfSome (history_told (D.first disk.old) (D.calls disk.old)) (λ h. length (held h) ≡ sector * sectors
-        → D.strays disk.new ≡ D.strays disk.old) }
-    ensures pieces { IfSome (history_told (D.first disk.old) (D.calls disk.old))
+    ensures earlier { Earlier (D.device disk.old) (D.device disk.new) }
+    ensures calls { (D.device disk.new).calls ≡ (D.device disk.old).calls }
+    ensures inside { StaysInsideWhere (D.device disk.old) (D.device disk.new) (λ h. length (held h) ≡ sector * sectors) }
+    ensures pieces { Known (D.device disk.old) (D.device disk.new)
         (λ h. IfOk result (λ pieces. length (held h) ≡ sector * sectors → ArePieces (held h) pieces)) }
     ensures sized { IfOk result (λ pieces. AreSized pieces × (pieces.sector ≡ sector) × (pieces.sectors ≡ sectors)) }
-    ensures fault { result ≡ Err TableFault.Disk → Rose (D.faults disk.old) (D.faults disk.new) }
+    ensures fault { result ≡ Err TableFault.Disk → Rose (D.device disk.old).faults (D.device disk.new).faults }
     ensures either { IfErr result (λ fault. (fault ≡ TableFault.Disk) ⊎ (fault ≡ TableFault.Memory)) }
-    ensures kept { (result ≡ Err TableFault.Disk) ⊎ (D.faults disk.new ≡ D.faults disk.old) }
+    ensures kept { (result ≡ Err TableFault.Disk) ⊎ ((D.device disk.new).faults ≡ (D.device disk.old).faults) }
 {
     let first = read_range(alloc, disk, 0, SECTOR as usize)?;
     let primary = read_place(alloc, disk, Which::Primary, sector, sectors)?;
@@ -120,6 +121,7 @@ fn read_pieces<D: Disk>(
 }
 
 /// A copy's place, of as many entries as its header says.
+#[tactic(auto, using(rp_disk::proofs::Noting::earlier_then))]
 fn read_place<D: Disk>(
     alloc: Global,
     disk: &mut D,
@@ -128,16 +130,15 @@ fn read_place<D: Disk>(
     sectors: u64,
 ) -> Result<Place, TableFault>
     requires { IsDisk sector sectors }
-    ensures first { D.first disk.new ≡ D.first disk.old }
-    ensures calls { D.calls disk.new ≡ D.calls disk.old }
-    ensures strays { IfSome (history_told (D.first disk.old) (D.calls disk.old)) (λ h. length (held h) ≡ sector * sectors
-        → D.strays disk.new ≡ D.strays disk.old) }
-    ensures place { IfSome (history_told (D.first disk.old) (D.calls disk.old))
+    ensures earlier { Earlier (D.device disk.old) (D.device disk.new) }
+    ensures calls { (D.device disk.new).calls ≡ (D.device disk.old).calls }
+    ensures inside { StaysInsideWhere (D.device disk.old) (D.device disk.new) (λ h. length (held h) ≡ sector * sectors) }
+    ensures place { Known (D.device disk.old) (D.device disk.new)
         (λ h. IfOk result (λ place. length (held h) ≡ sector * sectors → IsPlaceOf sector (held h) which place)) }
     ensures sized { IfOk result (λ place. IsSized sector sectors place) }
-    ensures fault { result ≡ Err TableFault.Disk → Rose (D.faults disk.old) (D.faults disk.new) }
+    ensures fault { result ≡ Err TableFault.Disk → Rose (D.device disk.old).faults (D.device disk.new).faults }
     ensures either { IfErr result (λ fault. (fault ≡ TableFault.Disk) ⊎ (fault ≡ TableFault.Memory)) }
-    ensures kept { (result ≡ Err TableFault.Disk) ⊎ (D.faults disk.new ≡ D.faults disk.old) }
+    ensures kept { (result ≡ Err TableFault.Disk) ⊎ ((D.device disk.new).faults ≡ (D.device disk.old).faults) }
 {
     let size = u64::from(sector);
     let at = size * header_place(which, sectors);
@@ -171,16 +172,15 @@ fn read_range<D: Disk>(
     at: u64,
     count: usize,
 ) -> Result<List<u8>, TableFault>
-    ensures first { D.first disk.new ≡ D.first disk.old }
-    ensures calls { D.calls disk.new ≡ D.calls disk.old }
-    ensures strays { IfSome (history_told (D.first disk.old) (D.calls disk.old)) (λ h. at + count ≤ length (held h)
-        → D.strays disk.new ≡ D.strays disk.old) }
-    ensures bytes { IfSome (history_told (D.first disk.old) (D.calls disk.old))
+    ensures earlier { Earlier (D.device disk.old) (D.device disk.new) }
+    ensures calls { (D.device disk.new).calls ≡ (D.device disk.old).calls }
+    ensures inside { StaysInsideWhere (D.device disk.old) (D.device disk.new) (λ h. at + count ≤ length (held h)) }
+    ensures bytes { Known (D.device disk.old) (D.device disk.new)
         (λ h. IfOk result (λ bytes. bytes ≡ bytes_at (held h) at count)) }
     ensures len { IfOk result (λ bytes. length bytes ≡ count) }
-    ensures fault { result ≡ Err TableFault.Disk → Rose (D.faults disk.old) (D.faults disk.new) }
+    ensures fault { result ≡ Err TableFault.Disk → Rose (D.device disk.old).faults (D.device disk.new).faults }
     ensures either { IfErr result (λ fault. (fault ≡ TableFault.Disk) ⊎ (fault ≡ TableFault.Memory)) }
-    ensures kept { (result ≡ Err TableFault.Disk) ⊎ (D.faults disk.new ≡ D.faults disk.old) }
+    ensures kept { (result ≡ Err TableFault.Disk) ⊎ ((D.device disk.new).faults ≡ (D.device disk.old).faults) }
 {
     let Ok(mut bytes) = vec![in alloc; 0; count] else {
         return Err(TableFault::Memory);

@@ -4,8 +4,8 @@ ghost use Rattle.std.specs.Prelude.{◌≡◌, ◌+◌, ◌-◌, ◌*◌, ◌^�
 ghost use Rattle.std.specs.Option.{option_or};
 ghost use Rattle.rp_base.specs.Faults.{HasCause};
 ghost use Rattle.rp_base.specs.Trees.{levels as levels_of};
+ghost use Rattle.rp_disk.specs.Device.{Earlier, Known, StaysInsideWhere};
 ghost use Rattle.rp_disk.specs.History.{held};
-ghost use Rattle.rp_disk.specs.Made.{history_told};
 ghost use Rattle.rp_verity.specs.Superblock.{FitIn, salt_in, superblock_in};
 ghost use Rattle.rp_tree.specs.Reads.{Reads, end_of, ends_of};
 ghost use Rattle.rp_tree.specs.Checked.{bad_in, block_of, first_bad, has_root, is_rooted, superblock_of, salt_of, top_of, wrong_block};
@@ -44,13 +44,12 @@ pub fn check_root<D: Disk>(
     requires hash { 8 ≤ hash.now.size }
     requires hash_end { hash.now.start + hash.now.size ≤ 2 ^ 35 }
     requires room { 24576 ≤ length room.old }
-    ensures first { D.first disk.new ≡ D.first disk.old }
-    ensures calls { D.calls disk.new ≡ D.calls disk.old }
-    ensures strays { IfSome (history_told (D.first disk.old) (D.calls disk.old)) (λ h. ends_of payload.now hash.now ≤ length (held h)
-        → D.strays disk.new ≡ D.strays disk.old) }
-    ensures answer { IfSome (history_told (D.first disk.old) (D.calls disk.old))
+    ensures earlier { Earlier (D.device disk.old) (D.device disk.new) }
+    ensures calls { (D.device disk.new).calls ≡ (D.device disk.old).calls }
+    ensures inside { StaysInsideWhere (D.device disk.old) (D.device disk.new) (λ h. ends_of payload.now hash.now ≤ length (held h)) }
+    ensures answer { Known (D.device disk.old) (D.device disk.new)
         (λ h. IfOk result (λ right. right ≡ has_root (held h) payload.now hash.now)) }
-    ensures cause { HasCause (D.faults disk.old) (D.faults disk.new) result }
+    ensures cause { HasCause (D.device disk.old).faults (D.device disk.new).faults result }
 {
     let block = &mut room[..BLOCK];
     let Some(tree) = read_tree(disk, payload, hash, block)? else {
@@ -74,13 +73,12 @@ pub fn check_all<D: Disk>(
     requires hash { 8 ≤ hash.now.size }
     requires hash_end { hash.now.start + hash.now.size ≤ 2 ^ 35 }
     requires room { 24576 ≤ length room.old }
-    ensures first { D.first disk.new ≡ D.first disk.old }
-    ensures calls { D.calls disk.new ≡ D.calls disk.old }
-    ensures strays { IfSome (history_told (D.first disk.old) (D.calls disk.old)) (λ h. ends_of payload.now hash.now ≤ length (held h)
-        → D.strays disk.new ≡ D.strays disk.old) }
-    ensures answer { IfSome (history_told (D.first disk.old) (D.calls disk.old))
+    ensures earlier { Earlier (D.device disk.old) (D.device disk.new) }
+    ensures calls { (D.device disk.new).calls ≡ (D.device disk.old).calls }
+    ensures inside { StaysInsideWhere (D.device disk.old) (D.device disk.new) (λ h. ends_of payload.now hash.now ≤ length (held h)) }
+    ensures answer { Known (D.device disk.old) (D.device disk.new)
         (λ h. IfOk result (λ bad. bad ≡ first_bad (held h) payload.now hash.now)) }
-    ensures cause { HasCause (D.faults disk.old) (D.faults disk.new) result }
+    ensures cause { HasCause (D.device disk.old).faults (D.device disk.new).faults result }
 {
     let (block, _) = room.split_at_mut(BLOCK);
     let Some(tree) = read_tree(disk, payload, hash, block)? else {
@@ -99,9 +97,8 @@ fn read_tree<D: Disk>(
     requires hash { 8 ≤ hash.now.size }
     requires end { hash.now.start + hash.now.size ≤ 2 ^ 35 }
     requires block { length block.old ≡ 4096 }
-    ensures reads { Reads (end_of hash.now) (D.first disk.old) (D.first disk.new) (D.calls disk.old) (D.calls disk.new)
-        (D.strays disk.old) (D.strays disk.new) (D.faults disk.old) (D.faults disk.new) result }
-    ensures tree { IfSome (history_told (D.first disk.old) (D.calls disk.old)) (λ h. IfOk result (λ found.
+    ensures reads { Reads (end_of hash.now) (D.device disk.old) (D.device disk.new) result }
+    ensures tree { Known (D.device disk.old) (D.device disk.new) (λ h. IfOk result (λ found.
         MatchOption found (superblock_of (held h) payload.now hash.now ≡ None) (IsTreeOf (held h) payload.now hash.now))) }
     ensures fits { IfOk result (λ found. IfSome found (λ tree. FitIn tree.said.blocks payload.now hash.now)) }
 {
@@ -147,11 +144,10 @@ fn is_rooted<D: Disk>(
     requires payload_end { payload.now.start + payload.now.size ≤ 2 ^ 35 }
     requires hash_end { hash.now.start + hash.now.size ≤ 2 ^ 35 }
     requires block { length block.old ≡ 4096 }
-    ensures reads { Reads (ends_of payload.now hash.now) (D.first disk.old) (D.first disk.new) (D.calls disk.old) (D.calls disk.new)
-        (D.strays disk.old) (D.strays disk.new) (D.faults disk.old) (D.faults disk.new) result }
-    ensures block { IfSome (history_told (D.first disk.old) (D.calls disk.old))
+    ensures reads { Reads (ends_of payload.now hash.now) (D.device disk.old) (D.device disk.new) result }
+    ensures block { Known (D.device disk.old) (D.device disk.new)
         (λ h. OnOk result (block.new ≡ top_of (held h) payload.now hash.now tree.now.said.blocks)) }
-    ensures root { IfSome (history_told (D.first disk.old) (D.calls disk.old)) (λ h. IsTreeOf (held h) payload.now hash.now tree.now
+    ensures root { Known (D.device disk.old) (D.device disk.new) (λ h. IsTreeOf (held h) payload.now hash.now tree.now
         → IfOk result (λ right. right ≡ is_rooted (held h) payload.now hash.now tree.now.said)) }
 {
     read_top(disk, payload, hash, tree.said.blocks, block)?;
@@ -170,9 +166,8 @@ fn read_top<D: Disk>(
     requires payload_end { payload.now.start + payload.now.size ≤ 2 ^ 35 }
     requires hash_end { hash.now.start + hash.now.size ≤ 2 ^ 35 }
     requires block { length block.old ≡ 4096 }
-    ensures reads { Reads (ends_of payload.now hash.now) (D.first disk.old) (D.first disk.new) (D.calls disk.old) (D.calls disk.new)
-        (D.strays disk.old) (D.strays disk.new) (D.faults disk.old) (D.faults disk.new) result }
-    ensures block { IfSome (history_told (D.first disk.old) (D.calls disk.old))
+    ensures reads { Reads (ends_of payload.now hash.now) (D.device disk.old) (D.device disk.new) result }
+    ensures block { Known (D.device disk.old) (D.device disk.new)
         (λ h. OnOk result (block.new ≡ top_of (held h) payload.now hash.now blocks)) }
 {
     if blocks == 1 {
@@ -206,9 +201,8 @@ fn check_tree<D: Disk>(
     requires payload_end { payload.now.start + payload.now.size ≤ 2 ^ 35 }
     requires hash_end { hash.now.start + hash.now.size ≤ 2 ^ 35 }
     requires room { 24576 ≤ length room.old }
-    ensures reads { Reads (ends_of payload.now hash.now) (D.first disk.old) (D.first disk.new) (D.calls disk.old) (D.calls disk.new)
-        (D.strays disk.old) (D.strays disk.new) (D.faults disk.old) (D.faults disk.new) result }
-    ensures bad { IfSome (history_told (D.first disk.old) (D.calls disk.old)) (λ h. IsTreeOf (held h) payload.now hash.now tree.now
+    ensures reads { Reads (ends_of payload.now hash.now) (D.device disk.old) (D.device disk.new) result }
+    ensures bad { Known (D.device disk.old) (D.device disk.new) (λ h. IsTreeOf (held h) payload.now hash.now tree.now
         → IfOk result (λ bad. bad ≡ bad_in (held h) payload.now hash.now tree.now.said)) }
 {
     if tree.said.blocks == 1 {
@@ -248,11 +242,10 @@ fn top_stands<D: Disk>(
     requires count { 1 ≤ count }
     requires low { count ≤ 5 }
     requires standing { length standing.old ≡ 4096 * count }
-    ensures reads { Reads (ends_of payload.now hash.now) (D.first disk.old) (D.first disk.new) (D.calls disk.old) (D.calls disk.new)
-        (D.strays disk.old) (D.strays disk.new) (D.faults disk.old) (D.faults disk.new) result }
-    ensures block { IfSome (history_told (D.first disk.old) (D.calls disk.old))
+    ensures reads { Reads (ends_of payload.now hash.now) (D.device disk.old) (D.device disk.new) result }
+    ensures block { Known (D.device disk.old) (D.device disk.new)
         (λ h. OnOk result (drop (4096 * (count - 1)) standing.new ≡ block_of (held h) hash.now 1)) }
-    ensures root { IfSome (history_told (D.first disk.old) (D.calls disk.old)) (λ h. IsTreeOf (held h) payload.now hash.now tree.now
+    ensures root { Known (D.device disk.old) (D.device disk.new) (λ h. IsTreeOf (held h) payload.now hash.now tree.now
         → IfOk result (λ right. right ≡ is_rooted (held h) payload.now hash.now tree.now.said)) }
 {
     let at = BLOCK * (count as usize - 1);
@@ -277,9 +270,8 @@ fn check_blocks<D: Disk>(
     requires standing { length standing.old ≡ 4096 * count }
     requires buffer { 4096 ≤ length buffer.old }
     requires shape { IsShape hash.now count tree.now.said.blocks (length standing.old) 5 }
-    ensures reads { Reads (ends_of payload.now hash.now) (D.first disk.old) (D.first disk.new) (D.calls disk.old) (D.calls disk.new)
-        (D.strays disk.old) (D.strays disk.new) (D.faults disk.old) (D.faults disk.new) result }
-    ensures bad { IfSome (history_told (D.first disk.old) (D.calls disk.old)) (λ h. IsTreeOf (held h) payload.now hash.now tree.now
+    ensures reads { Reads (ends_of payload.now hash.now) (D.device disk.old) (D.device disk.new) result }
+    ensures bad { Known (D.device disk.old) (D.device disk.new) (λ h. IsTreeOf (held h) payload.now hash.now tree.now
         → drop (4096 * (count - 1)) standing.old ≡ block_of (held h) hash.now 1
         → IfOk result (λ bad. bad ≡ wrong_block (held h)
         (salt_of (held h) hash.now tree.now.said) payload.now hash.now tree.now.said.blocks)) }

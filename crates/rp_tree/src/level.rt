@@ -1,9 +1,9 @@
 //! The hash blocks of a tree, one of each level at a time, the topmost one being there already.
 
-ghost use Rattle.std.specs.Prelude.{◌≡◌, ◌+◌, ◌-◌, ◌*◌, ◌/◌, ◌%◌, ◌^◌, ◌<◌, ◌≤◌, ℕ, List, IfSome, OnOk, drop, length};
+ghost use Rattle.std.specs.Prelude.{◌≡◌, ◌+◌, ◌-◌, ◌*◌, ◌/◌, ◌%◌, ◌^◌, ◌<◌, ◌≤◌, ℕ, List, OnOk, drop, length};
 ghost use Rattle.rp_base.specs.declared.table.Row.{Row as ARow};
+ghost use Rattle.rp_disk.specs.Device.{Known};
 ghost use Rattle.rp_disk.specs.History.{held};
-ghost use Rattle.rp_disk.specs.Made.{history_told};
 ghost use Rattle.rp_verity.specs.Tree.{runs as runs_of};
 ghost use Rattle.rp_verity.specs.Order.{blocks_over as blocks_of};
 ghost use Rattle.rp_tree.specs.Reads.{Reads, end_of};
@@ -31,9 +31,8 @@ pub(crate) fn next_block<D: Disk>(
     requires salt { length salt.now ≤ 256 }
     requires shape { IsShape hash.now levels total (length room.old) (length notes.old) }
     requires index { index < runs_of total }
-    ensures reads { Reads (end_of hash.now) (D.first disk.old) (D.first disk.new) (D.calls disk.old) (D.calls disk.new)
-        (D.strays disk.old) (D.strays disk.new) (D.faults disk.old) (D.faults disk.new) result }
-    ensures stands { IfSome (history_told (D.first disk.old) (D.calls disk.old)) (λ h.
+    ensures reads { Reads (end_of hash.now) (D.device disk.old) (D.device disk.new) result }
+    ensures stands { Known (D.device disk.old) (D.device disk.new) (λ h.
         Stands (held h) salt.now hash.now levels total index room.old notes.old
         → OnOk result (Stands (held h) salt.now hash.now levels total (index + 1) room.new notes.new)) }
 {
@@ -73,9 +72,8 @@ fn own_block<D: Disk>(
     requires shape { IsShape hash.now levels total (length room.old) (length notes.old) }
     requires more { 2 ≤ levels }
     requires index { index < runs_of total }
-    ensures reads { Reads (end_of hash.now) (D.first disk.old) (D.first disk.new) (D.calls disk.old) (D.calls disk.new)
-        (D.strays disk.old) (D.strays disk.new) (D.faults disk.old) (D.faults disk.new) result }
-    ensures stands { IfSome (history_told (D.first disk.old) (D.calls disk.old)) (λ h.
+    ensures reads { Reads (end_of hash.now) (D.device disk.old) (D.device disk.new) result }
+    ensures stands { Known (D.device disk.old) (D.device disk.new) (λ h.
         IsNoted (held h) salt.now hash.now levels total index notes.old
         → Stands (held h) salt.now hash.now (levels - 1) (runs_of total) (index / 128 + 1) (drop 4096 room.old) (drop 1 notes.old)
         → OnOk result (Stands (held h) salt.now hash.now levels total (index + 1) room.new notes.new)) }

@@ -1,9 +1,9 @@
 //! Reading blocks of rows.
 
-ghost use Rattle.std.specs.Prelude.{◌≡◌, ◌+◌, ◌*◌, ◌≤◌, ◌^◌, IfSome, OnOk, length};
+ghost use Rattle.std.specs.Prelude.{◌≡◌, ◌+◌, ◌*◌, ◌≤◌, ◌^◌, OnOk, length};
 ghost use Rattle.rp_base.specs.Image.{bytes_at};
+ghost use Rattle.rp_disk.specs.Device.{Known};
 ghost use Rattle.rp_disk.specs.History.{held};
-ghost use Rattle.rp_disk.specs.Made.{history_told};
 ghost use Rattle.rp_tree.specs.Reads.{Reads, end_of};
 
 use rp_base::{Failed, Row, SECTOR};
@@ -19,9 +19,8 @@ pub(crate) fn read_blocks<D: Disk>(
 ) -> Result<(), Failed>
     requires row { row.now.start + row.now.size ≤ 2 ^ 35 }
     requires blocks { 4096 * number + length buf.old ≤ 512 * row.now.size }
-    ensures reads { Reads (end_of row.now) (D.first disk.old) (D.first disk.new) (D.calls disk.old) (D.calls disk.new)
-        (D.strays disk.old) (D.strays disk.new) (D.faults disk.old) (D.faults disk.new) result }
-    ensures bytes { IfSome (history_told (D.first disk.old) (D.calls disk.old))
+    ensures reads { Reads (end_of row.now) (D.device disk.old) (D.device disk.new) result }
+    ensures bytes { Known (D.device disk.old) (D.device disk.new)
         (λ h. OnOk result (buf.new ≡ bytes_at (held h) (512 * row.now.start + 4096 * number) (length buf.old))) }
 {
     disk.read(SECTOR * row.start + BLOCK as u64 * number, buf)

@@ -4,8 +4,8 @@ ghost use Rattle.std.specs.Prelude.{◌≡◌, ◌+◌, ◌-◌, ◌*◌, ◌%�
 ghost use Rattle.std.specs.List.{range_with_len};
 ghost use Rattle.std.specs.Str.{bytes_eq};
 ghost use Rattle.rp_base.specs.Image.{bytes_at};
+ghost use Rattle.rp_disk.specs.Device.{Known};
 ghost use Rattle.rp_disk.specs.History.{held};
-ghost use Rattle.rp_disk.specs.Made.{history_told};
 ghost use Rattle.rp_verity.specs.Tree.{digest};
 ghost use Rattle.rp_base.specs.declared.table.Row.{Row as ARow};
 ghost use Rattle.rp_tree.specs.Reads.{Reads, end_of};
@@ -36,9 +36,8 @@ pub(crate) fn data_under<D: Disk>(
     requires index { 128 * index < blocks }
     requires digests { length digests.now ≡ 4096 }
     requires buffer { 4096 ≤ length buffer.old }
-    ensures reads { Reads (end_of payload.now) (D.first disk.old) (D.first disk.new) (D.calls disk.old) (D.calls disk.new)
-        (D.strays disk.old) (D.strays disk.new) (D.faults disk.old) (D.faults disk.new) result }
-    ensures found { IfSome (history_told (D.first disk.old) (D.calls disk.old)) (λ h. (hash : ARow) (begin : ℕ)
+    ensures reads { Reads (end_of payload.now) (D.device disk.old) (D.device disk.new) result }
+    ensures found { Known (D.device disk.old) (D.device disk.new) (λ h. (hash : ARow) (begin : ℕ)
         → digests.now ≡ block_of (held h) hash (begin + index)
         → found ≡ first_wrong_of (held h) salt.now payload.now 0 (128 * index) hash begin
         → IfOk result (λ now. now ≡ first_wrong_of (held h) salt.now payload.now 0 (min (128 * index + 128) blocks) hash begin)) }
@@ -79,10 +78,9 @@ fn wrong_in<D: Disk>(
     requires count { count ≤ 128 }
     requires digests { length digests.now ≡ 4096 }
     requires buffer { 4096 ≤ length buffer.old }
-    ensures reads { Reads (end_of payload.now) (D.first disk.old) (D.first disk.new) (D.calls disk.old) (D.calls disk.new)
-        (D.strays disk.old) (D.strays disk.new) (D.faults disk.old) (D.faults disk.new) result }
+    ensures reads { Reads (end_of payload.now) (D.device disk.old) (D.device disk.new) result }
     ensures inside { IfOk result (λ found. IfSome found (λ k. k < count)) }
-    ensures found { IfSome (history_told (D.first disk.old) (D.calls disk.old)) (λ h.
+    ensures found { Known (D.device disk.old) (D.device disk.new) (λ h.
         IfOk result (λ found. found ≡ find (λ k. not
         (bytes_eq (digest salt.now (block_of (held h) payload.now (first + k))) (bytes_at digests.now (32 * k) 32)))
         (range_with_len 0 count))) }

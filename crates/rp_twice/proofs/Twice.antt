@@ -10,8 +10,9 @@ use Rattle.rp_base.specs.declared.plan.Plan.{Plan}
 use Rattle.rp_base.specs.declared.seen.Seen.{Seen}
 use Rattle.rp_defs.specs.declared.definition.Definition.{Definition}
 use Rattle.rp_defs.specs.declared.definition.Definitions.{Definitions}
+use Rattle.rp_disk.specs.Device.{CanHave}
 use Rattle.rp_disk.specs.History.{held}
-use Rattle.rp_disk.specs.Made.{history_of}
+use Rattle.rp_disk.specs.Made.{Past, history_of}
 use Rattle.rp_disk.specs.declared.call.Call.{Call}
 use Rattle.rp_gpt.specs.declared.table_fault.Empty.TheVariants.{Allow}
 use Rattle.rp_headline.specs.Left.{HasGoal}
@@ -51,24 +52,21 @@ module _ (request : Request) (json : Bool) (dirs : List (List ℕ)) (folders rea
     (sources drained : Store (List Stored)) (out after : Output) (status : ℕ) (of_sector : IsSector request.sector)
     (whole : request.size % 4096 ≡ 0) (most : request.size ≤ 2 ^ 44)
     (applies : Applies request json dirs folders read disk later sources drained out after status) (is : IsBehind status)
-    (bytes : List ℕ) (tree : Tree) (tells : disk.first ≡ Some bytes) (told : folders.told ≡ Some tree) where
+    (past : Past) (tree : Tree) (can : CanHave past later) (told : folders.told ≡ Some tree) where
   module _ (definitions : Definitions) (planned : Planned) (calls : List Call) (are : AreRead request dirs folders definitions)
-      (all : CarriesAll request definitions.list disk later sources planned calls)
+      (all : CarriesAll request definitions.list disk later sources planned (Some past) calls)
       (finishes : Finishes out after (applied_report json definitions planned) status) where
     found : definitions_in request.arch tree dirs ≡ Ok definitions
     found = subst (λ o. IfSome o (λ tree. definitions_in request.arch tree dirs ≡ Ok definitions)) told are.told
 
-    safe : StopsSafely request definitions.list disk later planned all.some.are.body bytes
-    safe = subst (λ o. IfSome o (StopsSafely request definitions.list disk later planned all.some.are.body)) tells all.some.stops
+    safe : StopsSafely request definitions.list disk later planned all.some.are.body past
+    safe = all.some.stops
 
     abbrev Has : List ℕ → Type 0
-    Has = HasGoal request.sector (held (history_of bytes disk.calls)) planned.seen definitions.list request.seed planned.plan
+    Has = HasGoal request.sector (held (history_of past disk.calls)) planned.seen definitions.list request.seed planned.plan
 
-    has_goal : AtTheEnd bytes later Has
-    has_goal = subst
-        (λ o. IfSome o (λ bytes. AtTheEnd bytes later
-        (HasGoal request.sector (held (history_of bytes disk.calls)) planned.seen definitions.list request.seed planned.plan)))
-        tells all.ends
+    has_goal : AtTheEnd past later Has
+    has_goal = all.ends
 
     -- the image that is left is as long as was asked for
     long_enough : (image : List ℕ) → Has image → request.size ≤ length image
@@ -81,13 +79,13 @@ module _ (request : Request) (json : Bool) (dirs : List (List ℕ)) (folders rea
         omega (arith, len, target, at_least request.size planned.seen.sectors whole)
 
     no_call : (image : List ℕ) → Has image → IsIdle request.sector image definitions.list request.seed → MakesNoCall request dirs tree image
-    no_call image has idle empty form then gone start final files spent printed more ends first holds begins same again =
+    no_call image has idle empty form then gone start final files spent printed more ends other holds possible same again =
         ends_idle (record request { empty = empty }) form dirs then gone start final files spent printed more ends of_sector whole
-        most again first tree definitions begins holds found
+        most again other tree definitions possible holds found
         (subst (λ i. IsIdle request.sector i definitions.list request.seed) (sym same) idle)
         (subst (λ (i : List ℕ). request.size ≤ length i) (sym same) (long_enough image has))
 
-    nothing_left : LeavesNothingToDo request json dirs tree later out after status bytes
+    nothing_left : LeavesNothingToDo request json dirs tree later out after status past
     nothing_left = record {
       definitions = definitions;
       planned = planned;
@@ -98,11 +96,12 @@ module _ (request : Request) (json : Bool) (dirs : List (List ℕ)) (folders rea
     }
 
   by_end : Ends request json dirs folders disk later sources out after status
-      → LeavesNothingToDo request json dirs tree later out after status bytes
+      → LeavesNothingToDo request json dirs tree later out after status past
   by_end (before other leaves) = absurd (not_before status is other)
   by_end (broken other leaves) = absurd (not_between status is other)
-  by_end (between other definitions planned calls are some refusal cause refuses) = absurd (not_between status is other)
-  by_end (behind same definitions planned calls are all finishes) = nothing_left definitions planned calls are all finishes
+  by_end (between other definitions planned are some refusal cause refuses) = absurd (not_between status is other)
+  by_end (behind same definitions planned are all finishes) =
+      let made = all (Some past) can in nothing_left definitions planned made.0 are made.1 finishes
 
-  pub leaves_nothing : LeavesNothingToDo request json dirs tree later out after status bytes
+  pub leaves_nothing : LeavesNothingToDo request json dirs tree later out after status past
   leaves_nothing = by_end (ends_so request json dirs folders read disk later sources drained out after status of_sector whole most applies)

@@ -3,8 +3,9 @@ use Rattle.std.specs.Prelude.{ℕ, ◌≡◌, Bool, List, [], ◌∷◌, Some, O
 use Rattle.rp_apply_command.specs.Applies.{Applies, applied_report}
 use Rattle.rp_apply_command.specs.Ends.{AtTheEnd}
 use Rattle.rp_defs.specs.declared.definition.Definitions.{Definitions}
+use Rattle.rp_disk.specs.Device.{CanHave}
 use Rattle.rp_disk.specs.History.{held}
-use Rattle.rp_disk.specs.Made.{history_of}
+use Rattle.rp_disk.specs.Made.{Past, history_of}
 use Rattle.rp_disk.specs.Runs.{MadeFirst}
 use Rattle.rp_disk.specs.declared.call.Call.TheVariants.{Sync}
 use Rattle.rp_gpt.specs.declared.table_fault.Empty.{Empty}
@@ -23,18 +24,18 @@ use Rattle.rp_reading.specs.Reading.{definitions_in}
 abbrev pub MakesNoCall : Request → List (List ℕ) → Tree → List ℕ → Type 0
 MakesNoCall request dirs tree image =
     (empty : Empty) (json : Bool) (folders read : Store Tree) (disk later : Device) (sources drained : Store (List Stored))
-    (out after : Output) (status : ℕ) (bytes : List ℕ)
-    → folders.told ≡ Some tree → disk.first ≡ Some bytes → held (history_of bytes disk.calls) ≡ image
+    (out after : Output) (status : ℕ) (past : Past)
+    → folders.told ≡ Some tree → CanHave past later → held (history_of past disk.calls) ≡ image
     → Applies (record request { empty = empty }) json dirs folders read disk later sources drained out after status
     → MadeFirst disk.calls (Sync ∷ []) later.calls
 
 -- a run told what was planned, and where that dropped none, each image that a stop may leave is idle for the folders' definitions,
 -- and a second run on it makes no call
 pub record LeavesNothingToDo (request : Request) (json : Bool) (dirs : List (List ℕ)) (tree : Tree) (later : Device)
-    (out after : Output) (status : ℕ) (bytes : List ℕ) : Type 0 where
+    (out after : Output) (status : ℕ) (past : Past) : Type 0 where
   pub definitions : Definitions
   pub planned : Planned
   pub read : definitions_in request.arch tree dirs ≡ Ok definitions
   pub told : Finishes out after (applied_report json definitions planned) status
-  pub idle : planned.plan.dropped ≡ [] → AtTheEnd bytes later (λ image. IsIdle request.sector image definitions.list request.seed)
-  pub again : planned.plan.dropped ≡ [] → AtTheEnd bytes later (MakesNoCall request dirs tree)
+  pub idle : planned.plan.dropped ≡ [] → AtTheEnd past later (λ image. IsIdle request.sector image definitions.list request.seed)
+  pub again : planned.plan.dropped ≡ [] → AtTheEnd past later (MakesNoCall request dirs tree)

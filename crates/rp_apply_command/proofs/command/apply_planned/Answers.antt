@@ -10,4 +10,4 @@ returns-in-Ok-clause-applies g c =
     let planned = c.args.planned.now in
     let ready : IsReadyFor planned.plan planned.seen definitions.list c.in-Ok.ready = search rules in
     let text : c.as_str.result.now ≡ applied_report json definitions planned = search rules in
-    let r = c.carried_out.ensures json definitions planned ready text c.requires.len c.requires.roots in (r.0, inr r.1)
+    inr (c.carried_out.ensures json definitions planned ready text c.requires.len c.requires.roots)

@@ -3,7 +3,6 @@ use Rattle.std.proofs.Common.{map, string_bytes}
 use Rattle.rp_cli.proofs.Applied.{apply_applied, apply_idle, apply_refused, apply_safe}
 use Rattle.rp_cli.proofs.Applying.{apply_holds}
 use Rattle.rp_cli.specs.Asked.{request_of}
-use Rattle.rp_outcome.specs.Device.{device}
 use Rattle.rp_outcome.specs.Output.{output}
 use Rattle.rp_outcome.specs.Store.{store}
 use Rattle.rp_words.specs.Line.{text_in}
@@ -16,8 +15,8 @@ returns-clause-applied g c =
     apply_applied (request_of c.args.line) c.args.line.json (paths_of (text_in Definitions (map string_bytes c.args.words.now)))
     (store g.F.Folders.told g.F.Folders.faults g.F.Folders.strays c.args.folders.now)
     (store g.F.Folders.told g.F.Folders.faults g.F.Folders.strays c.apply_asked.new.folders)
-    (device g.D.Disk.first g.D.Disk.calls g.D.Disk.faults g.D.Disk.strays c.args.disk.now)
-    (device g.D.Disk.first g.D.Disk.calls g.D.Disk.faults g.D.Disk.strays c.apply_asked.new.disk)
+    (g.D.Disk.device c.args.disk.now)
+    (g.D.Disk.device c.apply_asked.new.disk)
     (store g.S.Sources.told g.S.Sources.faults g.S.Sources.strays c.args.sources.now)
     (store g.S.Sources.told g.S.Sources.faults g.S.Sources.strays c.apply_asked.new.sources)
     (output g.K.Sink.told g.K.Sink.faults c.args.out.now)
@@ -29,8 +28,8 @@ returns-clause-second_run g c =
     apply_idle (request_of c.args.line) c.args.line.json (paths_of (text_in Definitions (map string_bytes c.args.words.now)))
     (store g.F.Folders.told g.F.Folders.faults g.F.Folders.strays c.args.folders.now)
     (store g.F.Folders.told g.F.Folders.faults g.F.Folders.strays c.apply_asked.new.folders)
-    (device g.D.Disk.first g.D.Disk.calls g.D.Disk.faults g.D.Disk.strays c.args.disk.now)
-    (device g.D.Disk.first g.D.Disk.calls g.D.Disk.faults g.D.Disk.strays c.apply_asked.new.disk)
+    (g.D.Disk.device c.args.disk.now)
+    (g.D.Disk.device c.apply_asked.new.disk)
     (store g.S.Sources.told g.S.Sources.faults g.S.Sources.strays c.args.sources.now)
     (store g.S.Sources.told g.S.Sources.faults g.S.Sources.strays c.apply_asked.new.sources)
     (output g.K.Sink.told g.K.Sink.faults c.args.out.now)
@@ -42,8 +41,8 @@ returns-clause-any_moment g c =
     apply_safe (request_of c.args.line) c.args.line.json (paths_of (text_in Definitions (map string_bytes c.args.words.now)))
     (store g.F.Folders.told g.F.Folders.faults g.F.Folders.strays c.args.folders.now)
     (store g.F.Folders.told g.F.Folders.faults g.F.Folders.strays c.apply_asked.new.folders)
-    (device g.D.Disk.first g.D.Disk.calls g.D.Disk.faults g.D.Disk.strays c.args.disk.now)
-    (device g.D.Disk.first g.D.Disk.calls g.D.Disk.faults g.D.Disk.strays c.apply_asked.new.disk)
+    (g.D.Disk.device c.args.disk.now)
+    (g.D.Disk.device c.apply_asked.new.disk)
     (store g.S.Sources.told g.S.Sources.faults g.S.Sources.strays c.args.sources.now)
     (store g.S.Sources.told g.S.Sources.faults g.S.Sources.strays c.apply_asked.new.sources)
     (output g.K.Sink.told g.K.Sink.faults c.args.out.now)
@@ -55,8 +54,8 @@ returns-clause-untouched g c =
     apply_refused (request_of c.args.line) c.args.line.json (paths_of (text_in Definitions (map string_bytes c.args.words.now)))
     (store g.F.Folders.told g.F.Folders.faults g.F.Folders.strays c.args.folders.now)
     (store g.F.Folders.told g.F.Folders.faults g.F.Folders.strays c.apply_asked.new.folders)
-    (device g.D.Disk.first g.D.Disk.calls g.D.Disk.faults g.D.Disk.strays c.args.disk.now)
-    (device g.D.Disk.first g.D.Disk.calls g.D.Disk.faults g.D.Disk.strays c.apply_asked.new.disk)
+    (g.D.Disk.device c.args.disk.now)
+    (g.D.Disk.device c.apply_asked.new.disk)
     (store g.S.Sources.told g.S.Sources.faults g.S.Sources.strays c.args.sources.now)
     (store g.S.Sources.told g.S.Sources.faults g.S.Sources.strays c.apply_asked.new.sources)
     (output g.K.Sink.told g.K.Sink.faults c.args.out.now)
@@ -68,8 +67,8 @@ returns-clause-holds g c =
     apply_holds (request_of c.args.line) c.args.line.json (paths_of (text_in Definitions (map string_bytes c.args.words.now)))
     (store g.F.Folders.told g.F.Folders.faults g.F.Folders.strays c.args.folders.now)
     (store g.F.Folders.told g.F.Folders.faults g.F.Folders.strays c.apply_asked.new.folders)
-    (device g.D.Disk.first g.D.Disk.calls g.D.Disk.faults g.D.Disk.strays c.args.disk.now)
-    (device g.D.Disk.first g.D.Disk.calls g.D.Disk.faults g.D.Disk.strays c.apply_asked.new.disk)
+    (g.D.Disk.device c.args.disk.now)
+    (g.D.Disk.device c.apply_asked.new.disk)
     (store g.S.Sources.told g.S.Sources.faults g.S.Sources.strays c.args.sources.now)
     (store g.S.Sources.told g.S.Sources.faults g.S.Sources.strays c.apply_asked.new.sources)
     (output g.K.Sink.told g.K.Sink.faults c.args.out.now)

@@ -2,7 +2,6 @@
 use Rattle.std.proofs.Common.{map, string_bytes}
 use Rattle.rp_cli.proofs.Renewed.{apply_holds, reset_applied, reset_refused, reset_safe}
 use Rattle.rp_cli.specs.Asked.{request_of}
-use Rattle.rp_outcome.specs.Device.{device}
 use Rattle.rp_outcome.specs.Output.{output}
 use Rattle.rp_outcome.specs.Store.{store}
 use Rattle.rp_words.specs.Line.{text_in}
@@ -15,8 +14,8 @@ returns-clause-renewed g c =
     reset_applied (request_of c.args.line) c.args.line.json (paths_of (text_in Definitions (map string_bytes c.args.words.now)))
     (store g.F.Folders.told g.F.Folders.faults g.F.Folders.strays c.args.folders.now)
     (store g.F.Folders.told g.F.Folders.faults g.F.Folders.strays c.apply_reset_asked.new.folders)
-    (device g.D.Disk.first g.D.Disk.calls g.D.Disk.faults g.D.Disk.strays c.args.disk.now)
-    (device g.D.Disk.first g.D.Disk.calls g.D.Disk.faults g.D.Disk.strays c.apply_reset_asked.new.disk)
+    (g.D.Disk.device c.args.disk.now)
+    (g.D.Disk.device c.apply_reset_asked.new.disk)
     (store g.S.Sources.told g.S.Sources.faults g.S.Sources.strays c.args.sources.now)
     (store g.S.Sources.told g.S.Sources.faults g.S.Sources.strays c.apply_reset_asked.new.sources)
     (output g.K.Sink.told g.K.Sink.faults c.args.out.now)
@@ -28,8 +27,8 @@ returns-clause-any_moment g c =
     reset_safe (request_of c.args.line) c.args.line.json (paths_of (text_in Definitions (map string_bytes c.args.words.now)))
     (store g.F.Folders.told g.F.Folders.faults g.F.Folders.strays c.args.folders.now)
     (store g.F.Folders.told g.F.Folders.faults g.F.Folders.strays c.apply_reset_asked.new.folders)
-    (device g.D.Disk.first g.D.Disk.calls g.D.Disk.faults g.D.Disk.strays c.args.disk.now)
-    (device g.D.Disk.first g.D.Disk.calls g.D.Disk.faults g.D.Disk.strays c.apply_reset_asked.new.disk)
+    (g.D.Disk.device c.args.disk.now)
+    (g.D.Disk.device c.apply_reset_asked.new.disk)
     (store g.S.Sources.told g.S.Sources.faults g.S.Sources.strays c.args.sources.now)
     (store g.S.Sources.told g.S.Sources.faults g.S.Sources.strays c.apply_reset_asked.new.sources)
     (output g.K.Sink.told g.K.Sink.faults c.args.out.now)
@@ -41,8 +40,8 @@ returns-clause-untouched g c =
     reset_refused (request_of c.args.line) c.args.line.json (paths_of (text_in Definitions (map string_bytes c.args.words.now)))
     (store g.F.Folders.told g.F.Folders.faults g.F.Folders.strays c.args.folders.now)
     (store g.F.Folders.told g.F.Folders.faults g.F.Folders.strays c.apply_reset_asked.new.folders)
-    (device g.D.Disk.first g.D.Disk.calls g.D.Disk.faults g.D.Disk.strays c.args.disk.now)
-    (device g.D.Disk.first g.D.Disk.calls g.D.Disk.faults g.D.Disk.strays c.apply_reset_asked.new.disk)
+    (g.D.Disk.device c.args.disk.now)
+    (g.D.Disk.device c.apply_reset_asked.new.disk)
     (store g.S.Sources.told g.S.Sources.faults g.S.Sources.strays c.args.sources.now)
     (store g.S.Sources.told g.S.Sources.faults g.S.Sources.strays c.apply_reset_asked.new.sources)
     (output g.K.Sink.told g.K.Sink.faults c.args.out.now)
@@ -54,8 +53,8 @@ returns-clause-holds g c =
     apply_holds (request_of c.args.line) c.args.line.json (paths_of (text_in Definitions (map string_bytes c.args.words.now)))
     (store g.F.Folders.told g.F.Folders.faults g.F.Folders.strays c.args.folders.now)
     (store g.F.Folders.told g.F.Folders.faults g.F.Folders.strays c.apply_reset_asked.new.folders)
-    (device g.D.Disk.first g.D.Disk.calls g.D.Disk.faults g.D.Disk.strays c.args.disk.now)
-    (device g.D.Disk.first g.D.Disk.calls g.D.Disk.faults g.D.Disk.strays c.apply_reset_asked.new.disk)
+    (g.D.Disk.device c.args.disk.now)
+    (g.D.Disk.device c.apply_reset_asked.new.disk)
     (store g.S.Sources.told g.S.Sources.faults g.S.Sources.strays c.args.sources.now)
     (store g.S.Sources.told g.S.Sources.faults g.S.Sources.strays c.apply_reset_asked.new.sources)
     (output g.K.Sink.told g.K.Sink.faults c.args.out.now)

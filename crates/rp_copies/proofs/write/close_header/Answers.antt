@@ -12,7 +12,7 @@ returns-clause-ran g c =
     let sector = c.args.plan.now.goal.sector in
     let e : Write c.header_offset.result (take {A = ℕ} sector (replicate 4096 0)) ≡ close_call c.args.plan.now c.args.which =
     ap (λ (at : ℕ). Write at (take {A = ℕ} sector (replicate 4096 0))) c.header_offset.ensures.place ∙ ap (λ (b : List ℕ). Write (header_offset sector (target_sectors c.args.plan.now) c.args.which) b) (zeros_cut sector c.requires.sector) in
-    record { ok = c.in_ok-write.ensures.calls.ok ∙ ap (λ (call : Call). g.D.Disk.calls c.args.disk.now ++ Done call ∷ []) e; err = tt }
+    record { ok = c.in_ok-write.ensures.calls.ok ∙ ap (λ (call : Call). (g.D.Disk.device c.args.disk.now).calls ++ Done call ∷ []) e; err = tt }
 
 pub returns-in_err-write-clause-ran : goal.returns-in_err-write-clause-ran
 returns-in_err-write-clause-ran g c =

@@ -2,10 +2,9 @@
 use Rattle.std.proofs.Common.{◌≡◌, ◌≤◌, ◌*◌, ◌∙◌, Some, None, sym, ap}
 use Rattle.std.specs.Prelude.{option_map}
 use Rattle.rp_disk.specs.History.{held}
-use Rattle.rp_disk.specs.Made.{history_told}
+use Rattle.rp_disk.specs.Made.{history_of}
 use Rattle.rp_tree.specs.Reads.{ends_of}
-use Rattle.rp_tree.proofs.ReadsLemmas.{always, if_told, reads-farther, reads-fault, reads-value}
-use Rattle.rp_difference.specs.Difference.{bad_of}
+use Rattle.rp_tree.proofs.ReadsLemmas.{reads-farther, reads-fault, reads-none, reads-value}
 use Rattle.rp_difference.specs.declared.difference.Difference.TheVariants as differences
 use Rattle.rp_difference.proofs.Differing.{both, no_data, no_tree}
 use Rattle.rp_difference.proofs.Ends.{both_end, found_ends, row_ends, tree_ends}
@@ -13,19 +12,17 @@ use Rattle.rp_difference.proofs.trees.tree_difference.Goals as goal
 use Rattle.rp_verdict.specs.Rows.{row_of, tree_row}
 
 pub returns-in_default-clause-found : goal.returns-in_default-clause-found
-returns-in_default-clause-found g c =
+returns-in_default-clause-found g c past can =
     let is : row_of c.args.arch c.args.seen.now.shown.rows c.args.designator ≡ None = cc (c.row_of.ensures, c.in_default.is, c.as_slice-rows.ensures) in
-    always (history_told (g.D.Disk.first c.args.disk.now) (g.D.Disk.calls c.args.disk.now))
-    (λ h. sym (no_data (held h) c.args.arch c.args.seen.now.shown.rows c.args.designator is))
+    sym (no_data (held (history_of past (g.D.Disk.device c.args.disk.now).calls)) c.args.arch c.args.seen.now.shown.rows c.args.designator is)
 
 pub returns-in_default-tree_row-clause-found : goal.returns-in_default-tree_row-clause-found
-returns-in_default-tree_row-clause-found g c =
+returns-in_default-tree_row-clause-found g c past can =
     let is : row_of c.args.arch c.args.seen.now.shown.rows c.args.designator ≡ Some c.in-Some.payload =
     cc (c.row_of.ensures, c.in-Some.is, c.as_slice-rows.ensures) in
     let none : tree_row c.args.arch c.args.seen.now.shown.rows c.args.designator ≡ None =
     cc (c.tree_row.ensures, c.in_default-tree_row.is, c.as_slice-rows.ensures) in
-    always (history_told (g.D.Disk.first c.args.disk.now) (g.D.Disk.calls c.args.disk.now))
-    (λ h. sym (no_tree (held h) c.args.arch c.args.seen.now.shown.rows c.args.designator c.in-Some.payload is none))
+    sym (no_tree (held (history_of past (g.D.Disk.device c.args.disk.now).calls)) c.args.arch c.args.seen.now.shown.rows c.args.designator c.in-Some.payload is none)
 
 pub bad_of-requires-clause-payload : goal.bad_of-requires-clause-payload
 bad_of-requires-clause-payload g c =
@@ -79,25 +76,27 @@ returns-in-None-clause-reads g c =
     (reads-farther (ends_of c.in-Some.payload c.in-Some-tree_row.hash) (512 * c.args.seen.now.sectors) _ near c.in_ok-bad.ensures.reads)
 
 pub returns-in-Some-2-clause-found : goal.returns-in-Some-2-clause-found
-returns-in-Some-2-clause-found g c =
+returns-in-Some-2-clause-found g c past can =
     let is : row_of c.args.arch c.args.seen.now.shown.rows c.args.designator ≡ Some c.in-Some.payload =
     cc (c.row_of.ensures, c.in-Some.is, c.as_slice-rows.ensures) in
     let too : tree_row c.args.arch c.args.seen.now.shown.rows c.args.designator ≡ Some c.in-Some-tree_row.hash =
     cc (c.tree_row.ensures, c.in-Some-tree_row.is, c.as_slice-rows.ensures) in
-    if_told (history_told (g.D.Disk.first c.args.disk.now) (g.D.Disk.calls c.args.disk.now))
-    (λ h (bad : c.in_ok-bad.field-0 ≡ bad_of (held h) c.in-Some.payload c.in-Some-tree_row.hash).
     ap (option_map (differences.Tree c.args.designator)) (sym c.in-Some-2.is)
-    ∙ both (held h) c.args.arch c.args.seen.now.shown.rows c.args.designator c.in-Some.payload c.in-Some-tree_row.hash c.in_ok-bad.field-0 is too bad)
-    c.in_ok-bad.ensures.bad
+    ∙ both (held (history_of past (g.D.Disk.device c.args.disk.now).calls)) c.args.arch c.args.seen.now.shown.rows c.args.designator c.in-Some.payload
+    c.in-Some-tree_row.hash c.in_ok-bad.field-0 is too (c.in_ok-bad.ensures.bad past can)
 
 pub returns-in-None-clause-found : goal.returns-in-None-clause-found
-returns-in-None-clause-found g c =
+returns-in-None-clause-found g c past can =
     let is : row_of c.args.arch c.args.seen.now.shown.rows c.args.designator ≡ Some c.in-Some.payload =
     cc (c.row_of.ensures, c.in-Some.is, c.as_slice-rows.ensures) in
     let too : tree_row c.args.arch c.args.seen.now.shown.rows c.args.designator ≡ Some c.in-Some-tree_row.hash =
     cc (c.tree_row.ensures, c.in-Some-tree_row.is, c.as_slice-rows.ensures) in
-    if_told (history_told (g.D.Disk.first c.args.disk.now) (g.D.Disk.calls c.args.disk.now))
-    (λ h (bad : c.in_ok-bad.field-0 ≡ bad_of (held h) c.in-Some.payload c.in-Some-tree_row.hash).
     ap (option_map (differences.Tree c.args.designator)) (sym c.in-None.is)
-    ∙ both (held h) c.args.arch c.args.seen.now.shown.rows c.args.designator c.in-Some.payload c.in-Some-tree_row.hash c.in_ok-bad.field-0 is too bad)
-    c.in_ok-bad.ensures.bad
+    ∙ both (held (history_of past (g.D.Disk.device c.args.disk.now).calls)) c.args.arch c.args.seen.now.shown.rows c.args.designator c.in-Some.payload
+    c.in-Some-tree_row.hash c.in_ok-bad.field-0 is too (c.in_ok-bad.ensures.bad past can)
+
+pub returns-in_default-clause-reads : goal.returns-in_default-clause-reads
+returns-in_default-clause-reads g c = reads-none _ (g.D.Disk.device c.args.disk.now) _
+
+pub returns-in_default-tree_row-clause-reads : goal.returns-in_default-tree_row-clause-reads
+returns-in_default-tree_row-clause-reads g c = reads-none _ (g.D.Disk.device c.args.disk.now) _

@@ -6,8 +6,8 @@ use Rattle.rp_disk_example.proofs.copies.fill.Goals as goal
 
 pub returns-clause-end : goal.returns-clause-end
 returns-clause-end g c =
-    run_ends_settled c.make_row.result _ _ _ (Sync ∷ row_of c.args.at c.args.count c.args.bytes.now) c.make_row.ensures.ran
+    run_ends_settled c.make_row.result _ _ (Sync ∷ row_of c.args.at c.args.count c.args.bytes.now) c.make_row.ensures.ran
 
 pub returns-clause-any_moment : goal.returns-clause-any_moment
 returns-clause-any_moment g c =
-    run_any_moment_behind_sync c.make_row.result _ _ _ (settled_row c.args.at c.args.count c.args.bytes.now) c.make_row.ensures.ran
+    run_any_moment_behind_sync c.make_row.result _ _ (settled_row c.args.at c.args.count c.args.bytes.now) c.make_row.ensures.ran

@@ -1,8 +1,7 @@
 -- The rows of the designators so far.
 use Rattle.std.proofs.Common.{◌≡◌, Ok, length, map, take}
-use Rattle.std.specs.Prelude.{IfSome}
+use Rattle.rp_disk.specs.Device.{Known}
 use Rattle.rp_disk.specs.History.{held}
-use Rattle.rp_disk.specs.Made.{history_told}
 use Rattle.rp_policy.specs.Reading.{designators}
 use Rattle.rp_tree.specs.Reads.{Reads}
 use Rattle.rp_dissect.specs.Kinds.{found_of}
@@ -11,9 +10,8 @@ use Rattle.rp_dissect.proofs.found.found_in.Given as goal
 
 abbrev pub invariant-loop-place : goal.invariant-loop-place
 invariant-loop-place g l = record {
-  reads : Reads {T = Unit {0}} (farthest l.rows) (g.D.Disk.first l.initial.disk) (g.D.Disk.first l.disk) (g.D.Disk.calls l.initial.disk)
-      (g.D.Disk.calls l.disk) (g.D.Disk.strays l.initial.disk) (g.D.Disk.strays l.disk) (g.D.Disk.faults l.initial.disk) (g.D.Disk.faults l.disk) (Ok tt);
+  reads : Reads {T = Unit {0}} (farthest l.rows) (g.D.Disk.device l.initial.disk) (g.D.Disk.device l.disk) (Ok tt);
   size : length l.found ≡ 13;
-  found : IfSome (history_told (g.D.Disk.first l.initial.disk) (g.D.Disk.calls l.initial.disk)) (λ h.
+  found : Known (g.D.Disk.device l.initial.disk) (g.D.Disk.device l.disk) (λ h.
       take l.place l.found ≡ map (found_of (held h) l.arch l.rows) (take l.place designators));
 }

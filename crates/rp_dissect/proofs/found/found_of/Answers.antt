@@ -2,8 +2,8 @@ use Rattle.std.proofs.Common.{◌≡◌, ◌≤◌, ℕ, Some, Option, ◌∙◌
 use Rattle.std.specs.Prelude.{IfSome}
 use Rattle.rp_base.specs.declared.table.Row.{Row}
 use Rattle.rp_disk.specs.History.{held}
-use Rattle.rp_disk.specs.Made.{history_told}
-use Rattle.rp_tree.proofs.ReadsLemmas.{always, if_told, reads-farther, reads-fault, reads-value}
+use Rattle.rp_disk.specs.Made.{history_of}
+use Rattle.rp_tree.proofs.ReadsLemmas.{reads-farther, reads-fault, reads-none, reads-value}
 use Rattle.rp_dissect.specs.Kinds.{found_as, kinds_of}
 use Rattle.rp_dissect.specs.Reach.{ends_with, farthest}
 use Rattle.rp_dissect.proofs.Kinding.{found-none, found-some}
@@ -11,9 +11,9 @@ use Rattle.rp_dissect.proofs.Reaching.{IsAmong, ends_among, row_among, tree_amon
 use Rattle.rp_dissect.proofs.found.found_of.Goals as goal
 
 pub returns-in_default-clause-found : goal.returns-in_default-clause-found
-returns-in_default-clause-found g c =
-    always (history_told (g.D.Disk.first c.args.disk.now) (g.D.Disk.calls c.args.disk.now))
-    (λ h. sym (found-none (held h) c.args.arch c.args.rows.now c.args.designator (sym c.row_of.ensures ∙ c.in_default.is)))
+returns-in_default-clause-found g c past can =
+    sym (found-none (held (history_of past (g.D.Disk.device c.args.disk.now).calls)) c.args.arch c.args.rows.now c.args.designator
+    (sym c.row_of.ensures ∙ c.in_default.is))
 
 pub kinds_of-requires-clause-row : goal.kinds_of-requires-clause-row
 kinds_of-requires-clause-row g c =
@@ -51,14 +51,14 @@ returns-clause-reads g c =
     (reads-farther (ends_with c.in-Some.row c.tree_row-tree.result) (farthest rows) _ near c.in_ok-kinds.ensures.reads)
 
 pub returns-clause-found : goal.returns-clause-found
-returns-clause-found g c =
-    let arch = c.args.arch in
+returns-clause-found g c past can =
     let rows = c.args.rows.now in
     let row = c.in-Some.row in
-    if_told (history_told (g.D.Disk.first c.args.disk.now) (g.D.Disk.calls c.args.disk.now))
-    (λ h (kinds : c.in_ok-kinds.kinds.0 ≡ kinds_of (held h) row c.tree_row-tree.result).
-    sym (found-some (held h) arch rows c.args.designator row (sym c.row_of.ensures ∙ c.in-Some.is)
+    let image = held (history_of past (g.D.Disk.device c.args.disk.now).calls) in
+    sym (found-some image c.args.arch rows c.args.designator row (sym c.row_of.ensures ∙ c.in-Some.is)
     ∙ ap (λ (kinds : ℕ). Some (found_as row kinds))
-    (ap (λ (tree : Option Row). kinds_of (held h) row tree) (sym c.tree_row-tree.ensures) ∙ sym kinds)
-    ∙ ap Some (sym c.found_as.ensures)))
-    c.in_ok-kinds.ensures.kinds
+    (ap (λ (tree : Option Row). kinds_of image row tree) (sym c.tree_row-tree.ensures) ∙ sym (c.in_ok-kinds.ensures.kinds past can))
+    ∙ ap Some (sym c.found_as.ensures))
+
+pub returns-in_default-clause-reads : goal.returns-in_default-clause-reads
+returns-in_default-clause-reads g c = reads-none _ (g.D.Disk.device c.args.disk.now) _

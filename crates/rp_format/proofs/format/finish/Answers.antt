@@ -12,6 +12,7 @@ use Rattle.rp_format.specs.Taking.{left_puts}
 use Rattle.rp_format.specs.Waiting.{puts_of}
 use Rattle.rp_format.specs.Written.{LieIn}
 use Rattle.rp_format.proofs.Pushed.{finished_puts, left_ends, length-left_over, length-placed, not_refused}
+use Rattle.rp_disk.proofs.Noting.{earlier_same}
 use Rattle.rp_format.proofs.Steps.{broke_first}
 use Rattle.rp_format.proofs.Told.{stays_of, stays_says, stays_weaker}
 use Rattle.rp_format.proofs.format.finish.Goals as goal
@@ -58,8 +59,8 @@ returns-in_err-write_to-clause-failed g c = λ taken has.
     (record { salted = has.salted; pushed = has.pushed; room = has.room; root = has.root })) in
     let made = broke_first _ _ _ c.in_err-write_to.ensures.ran.err in
     on_err c.from_residual-in_err-write_to.result
-    (subst (λ (puts : List (ℕ × List ℕ)). MadeFirst (g.D.Disk.calls c.args.disk.now) (writes_of c.args.tree.now.hash_at puts)
-    (g.D.Disk.calls c.write_to.new.disk)) are made)
+    (subst (λ (puts : List (ℕ × List ℕ)). MadeFirst (g.D.Disk.device c.args.disk.now).calls (writes_of c.args.tree.now.hash_at puts)
+    (g.D.Disk.device c.write_to.new.disk).calls) are made)
 
 pub returns-clause-done : goal.returns-clause-done
 returns-clause-done g c = λ taken has.
@@ -69,10 +70,10 @@ returns-clause-done g c = λ taken has.
     (c.in_ok-root.ensures.puts c.args.tree.now.salt taken
     (record { salted = has.salted; pushed = has.pushed; room = has.room; root = has.root })) in
     c.in_ok-write_to.ensures.ran.ok
-    ∙ ap (λ (puts : List (ℕ × List ℕ)). g.D.Disk.calls c.args.disk.now ++ dones (writes_of c.args.tree.now.hash_at puts)) are
+    ∙ ap (λ (puts : List (ℕ × List ℕ)). (g.D.Disk.device c.args.disk.now).calls ++ dones (writes_of c.args.tree.now.hash_at puts)) are
 
 pub returns-in_err-write_to-clause-strays : goal.returns-in_err-write_to-clause-strays
-returns-in_err-write_to-clause-strays g c =
+returns-in_err-write_to-clause-strays g c = λ o can.
     let taken : List (List ℕ) = c.requires.taken.0 in
     let has : HasTaken c.args.builder c.args.tree.now.salt taken = c.requires.taken.1 in
     let count : length taken ≡ c.args.tree.now.blocks = sym has.pushed ∙ c.requires.builder.pushed in
@@ -83,10 +84,10 @@ returns-in_err-write_to-clause-strays g c =
     stays_says (LieIn c.args.tree.now) _ _ _ _
     (stays_weaker (λ n. EndBy c.args.tree.now.hash_at n (puts_of c.finish.new.out)) (LieIn c.args.tree.now) _ _ _ _
     (λ n lies. subst (EndBy c.args.tree.now.hash_at n) (sym are) (left_ends c.args.tree.now c.requires.plan taken n lies.1))
-    (stays_of (λ n. EndBy c.args.tree.now.hash_at n (puts_of c.finish.new.out)) _ _ _ _ c.write_to.ensures.strays))
+    (stays_of (λ n. EndBy c.args.tree.now.hash_at n (puts_of c.finish.new.out)) _ _ _ _ (c.write_to.ensures.strays o can)))
 
 pub returns-clause-strays : goal.returns-clause-strays
-returns-clause-strays g c =
+returns-clause-strays g c = λ o can.
     let taken : List (List ℕ) = c.requires.taken.0 in
     let has : HasTaken c.args.builder c.args.tree.now.salt taken = c.requires.taken.1 in
     let count : length taken ≡ c.args.tree.now.blocks = sym has.pushed ∙ c.requires.builder.pushed in
@@ -97,4 +98,7 @@ returns-clause-strays g c =
     stays_says (LieIn c.args.tree.now) _ _ _ _
     (stays_weaker (λ n. EndBy c.args.tree.now.hash_at n (puts_of c.finish.new.out)) (LieIn c.args.tree.now) _ _ _ _
     (λ n lies. subst (EndBy c.args.tree.now.hash_at n) (sym are) (left_ends c.args.tree.now c.requires.plan taken n lies.1))
-    (stays_of (λ n. EndBy c.args.tree.now.hash_at n (puts_of c.finish.new.out)) _ _ _ _ c.write_to.ensures.strays))
+    (stays_of (λ n. EndBy c.args.tree.now.hash_at n (puts_of c.finish.new.out)) _ _ _ _ (c.write_to.ensures.strays o can)))
+
+pub returns-in_err-root-clause-earlier : goal.returns-in_err-root-clause-earlier
+returns-in_err-root-clause-earlier g c = earlier_same _

@@ -14,6 +14,7 @@ use Rattle.rp_format.specs.Waiting.{puts_of}
 use Rattle.rp_format.specs.Written.{LieIn}
 use Rattle.rp_format.specs.declared.tree.TreePlan.{TreePlan}
 use Rattle.rp_format.proofs.Pushed.{full_ends, length-full_with, length-placed, not_refused, pushed_next, takes_err}
+use Rattle.rp_disk.proofs.Noting.{earlier_same}
 use Rattle.rp_format.proofs.Steps.{broke_first}
 use Rattle.rp_format.proofs.Told.{stays_of, stays_says, stays_weaker}
 use Rattle.rp_format.proofs.format.take_block.Goals as goal
@@ -91,13 +92,13 @@ returns-in_err-write_to-clause-takes g c block is =
     let made = broke_first _ _ _ c.in_err-write_to.ensures.ran.err in
     takes_err _ tree k _ _ _ _ block c.from_residual-in_err-write_to.ensures.0
     (λ taken rest has all.
-    subst (λ (puts : List (ℕ × List ℕ)). MadeFirst (g.D.Disk.calls c.args.disk.now) (writes_of tree.hash_at puts)
-    (g.D.Disk.calls c.write_to.new.disk))
+    subst (λ (puts : List (ℕ × List ℕ)). MadeFirst (g.D.Disk.device c.args.disk.now).calls (writes_of tree.hash_at puts)
+    (g.D.Disk.device c.write_to.new.disk).calls)
     (pushed_next tree k builder.blocks taken rest block _ _ at.blocks (sym has.pushed ∙ at.pushed) c.requires.waiting.puts
     (c.in_ok-push_digest.ensures.puts tree.salt block taken rest has is) all) made)
 
 pub returns-in_err-write_to-clause-strays : goal.returns-in_err-write_to-clause-strays
-returns-in_err-write_to-clause-strays g c =
+returns-in_err-write_to-clause-strays g c = λ o can.
     let tree : TreePlan = c.args.tree.now in
     let k : ℕ = c.args.k in
     let builder : Builder = c.args.builder.now in
@@ -113,7 +114,7 @@ returns-in_err-write_to-clause-strays g c =
     stays_says (LieIn tree) _ _ _ _
     (stays_weaker (λ m. EndBy tree.hash_at m (puts_of c.push_digest.new.out)) (LieIn tree) _ _ _ _
     (λ m lies. subst (EndBy tree.hash_at m) (sym here) (full_ends tree c.requires.plan whole k m c.requires.more lies.1))
-    (stays_of (λ m. EndBy tree.hash_at m (puts_of c.push_digest.new.out)) _ _ _ _ c.write_to.ensures.strays))
+    (stays_of (λ m. EndBy tree.hash_at m (puts_of c.push_digest.new.out)) _ _ _ _ (c.write_to.ensures.strays o can)))
 
 pub returns-clause-takes : goal.returns-clause-takes
 returns-clause-takes g c block is =
@@ -125,14 +126,14 @@ returns-clause-takes g c block is =
       taken = λ taken has. c.in_ok-push_digest.ensures.taken tree.salt block taken has is;
       done = λ taken rest has all.
           c.in_ok-write_to.ensures.ran.ok
-          ∙ ap (λ (puts : List (ℕ × List ℕ)). g.D.Disk.calls c.args.disk.now ++ dones (writes_of tree.hash_at puts))
+          ∙ ap (λ (puts : List (ℕ × List ℕ)). (g.D.Disk.device c.args.disk.now).calls ++ dones (writes_of tree.hash_at puts))
           (pushed_next tree k builder.blocks taken rest block _ _ at.blocks (sym has.pushed ∙ at.pushed) c.requires.waiting.puts
           (c.in_ok-push_digest.ensures.puts tree.salt block taken rest has is) all);
       failed = λ taken rest has all. tt;
     }
 
 pub returns-clause-strays : goal.returns-clause-strays
-returns-clause-strays g c =
+returns-clause-strays g c = λ o can.
     let tree : TreePlan = c.args.tree.now in
     let k : ℕ = c.args.k in
     let builder : Builder = c.args.builder.now in
@@ -148,4 +149,7 @@ returns-clause-strays g c =
     stays_says (LieIn tree) _ _ _ _
     (stays_weaker (λ m. EndBy tree.hash_at m (puts_of c.push_digest.new.out)) (LieIn tree) _ _ _ _
     (λ m lies. subst (EndBy tree.hash_at m) (sym here) (full_ends tree c.requires.plan whole k m c.requires.more lies.1))
-    (stays_of (λ m. EndBy tree.hash_at m (puts_of c.push_digest.new.out)) _ _ _ _ c.write_to.ensures.strays))
+    (stays_of (λ m. EndBy tree.hash_at m (puts_of c.push_digest.new.out)) _ _ _ _ (c.write_to.ensures.strays o can)))
+
+pub returns-in_err-push_digest-clause-earlier : goal.returns-in_err-push_digest-clause-earlier
+returns-in_err-push_digest-clause-earlier g c = earlier_same _

@@ -1,4 +1,7 @@
 use Rattle.std.proofs.Common.{◌≡◌, ℕ, ◌+◌, ◌*◌, List, min}
+use Rattle.std.specs.Prelude.{Option}
+use Rattle.rp_disk.specs.Device.{Earlier, IsPossible, missed_by}
+use Rattle.rp_disk.specs.Made.{Past}
 use Rattle.rp_format.specs.Taking.{IsAt}
 use Rattle.rp_format.specs.Waiting.{IsEmpty}
 use Rattle.rp_format.specs.Written.{LieIn}
@@ -10,22 +13,23 @@ abbrev pub invariant-runs : goal.invariant-runs
 invariant-runs g l = record {
   builder : IsAt l.tree (min (4 * l.turn) l.tree.blocks) l.builder;
   waiting : IsEmpty l.waiting;
-  first : g.D.Disk.first l.disk ≡ g.D.Disk.first l.fn.disk;
-  faults : g.D.Disk.faults l.disk ≡ g.D.Disk.faults l.fn.disk;
-  strays : Stays (LieIn l.tree) (g.D.Disk.first l.fn.disk) (g.D.Disk.calls l.fn.disk) (g.D.Disk.strays l.fn.disk) (g.D.Disk.strays l.disk);
-  reaches : Reaches l.tree (min (4 * l.turn) l.tree.blocks) (g.D.Disk.first l.fn.disk) (g.D.Disk.calls l.fn.disk);
-  so_far : (taken : List (List ℕ)) × SoFar l.tree (g.D.Disk.first l.fn.disk) (g.D.Disk.calls l.fn.disk) l.builder
-      (min (4 * l.turn) l.tree.blocks) (g.D.Disk.calls l.disk) taken;
+  earlier : Earlier (g.D.Disk.device l.fn.disk) (g.D.Disk.device l.disk);
+  faults : (g.D.Disk.device l.disk).faults ≡ (g.D.Disk.device l.fn.disk).faults;
+  strays : (o : Option Past) → IsPossible o (g.D.Disk.device l.disk) → Stays (LieIn l.tree) o (g.D.Disk.device l.fn.disk).calls (missed_by o (g.D.Disk.device l.fn.disk).answers) (missed_by o (g.D.Disk.device l.disk).answers);
+  reaches : (o : Option Past) → IsPossible o (g.D.Disk.device l.disk) → Reaches l.tree (min (4 * l.turn) l.tree.blocks) o (g.D.Disk.device l.fn.disk).calls;
+  so_far : (o : Option Past) → IsPossible o (g.D.Disk.device l.disk) → (taken : List (List ℕ)) × SoFar l.tree o (g.D.Disk.device l.fn.disk).calls l.builder
+      (min (4 * l.turn) l.tree.blocks) (g.D.Disk.device l.disk).calls taken;
 }
 
 abbrev pub invariant-each : goal.invariant-each
 invariant-each g l = record {
   builder : IsAt l.tree (l.k + l.i) l.builder;
   waiting : IsEmpty l.waiting;
-  first : g.D.Disk.first l.disk ≡ g.D.Disk.first l.fn.disk;
-  faults : g.D.Disk.faults l.disk ≡ g.D.Disk.faults l.fn.disk;
-  strays : Stays (LieIn l.tree) (g.D.Disk.first l.fn.disk) (g.D.Disk.calls l.fn.disk) (g.D.Disk.strays l.fn.disk) (g.D.Disk.strays l.disk);
-  read : AreRead l.tree l.k l.count (g.D.Disk.first l.fn.disk) (g.D.Disk.calls l.fn.disk) l.digests;
-  so_far : (taken : List (List ℕ)) × SoFar l.tree (g.D.Disk.first l.fn.disk) (g.D.Disk.calls l.fn.disk) l.builder (l.k + l.i)
-      (g.D.Disk.calls l.disk) taken;
+  earlier : Earlier (g.D.Disk.device l.fn.disk) (g.D.Disk.device l.disk);
+  faults : (g.D.Disk.device l.disk).faults ≡ (g.D.Disk.device l.fn.disk).faults;
+  strays : (o : Option Past) → IsPossible o (g.D.Disk.device l.disk) → Stays (LieIn l.tree) o (g.D.Disk.device l.fn.disk).calls (missed_by o (g.D.Disk.device l.fn.disk).answers) (missed_by o (g.D.Disk.device l.disk).answers);
+  read : (o : Option Past) → IsPossible o (g.D.Disk.device l.disk) → AreRead l.tree l.k l.count o (g.D.Disk.device l.fn.disk).calls l.digests;
+  reaches : (o : Option Past) → IsPossible o (g.D.Disk.device l.disk) → Reaches l.tree (l.k + l.count) o (g.D.Disk.device l.fn.disk).calls;
+  so_far : (o : Option Past) → IsPossible o (g.D.Disk.device l.disk) → (taken : List (List ℕ)) × SoFar l.tree o (g.D.Disk.device l.fn.disk).calls l.builder (l.k + l.i)
+      (g.D.Disk.device l.disk).calls taken;
 }

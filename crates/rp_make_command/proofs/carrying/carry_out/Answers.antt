@@ -1,5 +1,4 @@
 use Rattle.std.proofs.Common.{subst}
-use Rattle.rp_outcome.specs.Device.{device}
 use Rattle.rp_outcome.specs.Store.{store}
 use Rattle.rp_apply_command.specs.Applies.{CarriesOut, Outcome}
 use Rattle.rp_apply_command.proofs.Carried.{carries}
@@ -8,22 +7,22 @@ use Rattle.rp_make_command.proofs.carrying.carry_out.Goals as goal
 
 pub returns-in-Ok : goal.returns-in-Ok
 returns-in-Ok g c = λ definitions planned is long roots.
-    let old = device g.D.Disk.first g.D.Disk.calls g.D.Disk.faults g.D.Disk.strays c.args.disk.now in
-    let new = device g.D.Disk.first g.D.Disk.calls g.D.Disk.faults g.D.Disk.strays c.commit.new.disk in
+    let old = g.D.Disk.device c.args.disk.now in
+    let new = g.D.Disk.device c.commit.new.disk in
     let from = store g.S.Sources.told g.S.Sources.faults g.S.Sources.strays c.args.sources.now in
     let to = store g.S.Sources.told g.S.Sources.faults g.S.Sources.strays c.commit.new.sources in
     let e = c.commit.ensures in
     let r = carries definitions planned old new from to c.args.ready is long roots c.commit.result
-    e.first e.told e.made e.disk_cause e.source_cause e.disk_strays in
-    (r.0, subst (λ (a : Outcome). CarriesOut definitions planned old new from to r.0 a) (as_done c.commit.result c.in-Ok.field-0 c.in-Ok.is) r.1, stays definitions planned from to c.args.ready is e.source_strays)
+    e.earlier e.told e.made e.disk_cause e.source_cause e.disk_strays in
+    (subst (λ (a : Outcome). CarriesOut definitions planned old new from to a) (as_done c.commit.result c.in-Ok.field-0 c.in-Ok.is) r, stays definitions planned from to c.args.ready is e.source_strays)
 
 pub returns-in-Err : goal.returns-in-Err
 returns-in-Err g c = λ definitions planned is long roots.
-    let old = device g.D.Disk.first g.D.Disk.calls g.D.Disk.faults g.D.Disk.strays c.args.disk.now in
-    let new = device g.D.Disk.first g.D.Disk.calls g.D.Disk.faults g.D.Disk.strays c.commit.new.disk in
+    let old = g.D.Disk.device c.args.disk.now in
+    let new = g.D.Disk.device c.commit.new.disk in
     let from = store g.S.Sources.told g.S.Sources.faults g.S.Sources.strays c.args.sources.now in
     let to = store g.S.Sources.told g.S.Sources.faults g.S.Sources.strays c.commit.new.sources in
     let e = c.commit.ensures in
     let r = carries definitions planned old new from to c.args.ready is long roots c.commit.result
-    e.first e.told e.made e.disk_cause e.source_cause e.disk_strays in
-    (r.0, subst (λ (a : Outcome). CarriesOut definitions planned old new from to r.0 a) (as_refused c.commit.result c.in-Err.fault c.in-Err.is) r.1, stays definitions planned from to c.args.ready is e.source_strays)
+    e.earlier e.told e.made e.disk_cause e.source_cause e.disk_strays in
+    (subst (λ (a : Outcome). CarriesOut definitions planned old new from to a) (as_refused c.commit.result c.in-Err.fault c.in-Err.is) r, stays definitions planned from to c.args.ready is e.source_strays)

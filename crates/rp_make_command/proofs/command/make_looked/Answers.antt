@@ -1,10 +1,9 @@
 use Rattle.std.proofs.Common.{refl}
-use Rattle.rp_outcome.specs.Device.{device}
 use Rattle.rp_make_command.proofs.command.make_looked.Goals as goal
 
 pub returns-in-Err : goal.returns-in-Err
 returns-in-Err g c = (
-  device g.D.Disk.first g.D.Disk.calls g.D.Disk.faults g.D.Disk.strays c.grow.new.disk,
+  g.D.Disk.device c.grow.new.disk,
   c.grow.result,
   c.grow.ensures,
   rw c.in-Err.is (refl, refl, rw c.disk.ensures at c.refuse.ensures),

@@ -1,7 +1,6 @@
-use Rattle.std.proofs.Common.{◌≡◌, [], Option, true, inl, inr, refl, rules, subst, sym}
+use Rattle.std.proofs.Common.{◌≡◌, Option, true, inl, inr, refl, rules, subst, sym}
 use Rattle.rp_apply.specs.Ready.{IsReadyFor}
 use Rattle.rp_base.specs.declared.plan.Plan.{Plan}
-use Rattle.rp_outcome.specs.Device.{device}
 use Rattle.rp_outcome.specs.Store.{store}
 use Rattle.rp_reset_command.specs.Applies.{CarriesRenewal, outcome_of}
 use Rattle.rp_reset_command.specs.Reports.{renewal_report}
@@ -13,21 +12,18 @@ returns-in-Ok g c =
     let definitions = c.args.definitions.now in
     let renewal = c.args.renewal.now in
     let reset = c.args.reset.now in
-    let old = device g.D.Disk.first g.D.Disk.calls g.D.Disk.faults g.D.Disk.strays c.args.disk.now in
-    let new = device g.D.Disk.first g.D.Disk.calls g.D.Disk.faults g.D.Disk.strays c.carry_out_both-done.new.disk in
+    let old = g.D.Disk.device c.args.disk.now in
+    let new = g.D.Disk.device c.carry_out_both-done.new.disk in
     let from = store g.S.Sources.told g.S.Sources.faults g.S.Sources.strays c.args.sources.now in
     let to = store g.S.Sources.told g.S.Sources.faults g.S.Sources.strays c.carry_out_both-done.new.sources in
     let first : IsReadyFor reset renewal.seen definitions.list c.in-Ok.first = search rules in
     let second : IsReadyFor renewal.planned.plan renewal.planned.seen definitions.list c.in-Ok.second = search rules in
     let text : c.as_str.result.now ≡ renewal_report json definitions renewal true = search rules in
-    let r = c.carry_out_both-done.ensures definitions renewal reset first second c.requires.some c.requires.can in (
-      r.0,
-      inr (
-        outcome_of c.carry_out_both-done.result,
-        subst (λ (o : Option Plan). CarriesRenewal definitions renewal o old new from to r.0 (outcome_of c.carry_out_both-done.result)) (sym c.requires.some) r.1,
-        c.tell.ensures json definitions renewal text,
-      ),
+    let r = c.carry_out_both-done.ensures definitions renewal reset first second c.requires.some c.requires.can in inr (
+      outcome_of c.carry_out_both-done.result,
+      subst (λ (o : Option Plan). CarriesRenewal definitions renewal o old new from to (outcome_of c.carry_out_both-done.result)) (sym c.requires.some) r,
+      c.tell.ensures json definitions renewal text,
     )
 
 pub returns-in-Err : goal.returns-in-Err
-returns-in-Err g c = ([], inl (refl, refl, refl, rw c.memory.ensures at c.refuse.ensures))
+returns-in-Err g c = inl (refl, refl, rw c.memory.ensures at c.refuse.ensures)

@@ -2,11 +2,10 @@
 use Rattle.std.proofs.Common.{◌≡◌, ℕ, ◌+◌, ◌-◌, ◌*◌, List, length, drop, ◌∙◌, ap, arith}
 use Rattle.rp_base.specs.Image.{bytes_at}
 use Rattle.rp_disk.specs.History.{held}
-use Rattle.rp_disk.specs.Made.{history_told}
+use Rattle.rp_disk.specs.Made.{history_of}
 use Rattle.rp_verity.specs.Order.{blocks_over}
 use Rattle.rp_verity.specs.Tree.{runs}
 use Rattle.rp_tree.proofs.Counts.{blocks_over-split}
-use Rattle.rp_tree.proofs.ReadsLemmas.{if_told}
 use Rattle.rp_tree.proofs.StandingLemmas.{drop-front, stands-next}
 use Rattle.rp_tree.proofs.level.own_block.Goals as goal
 
@@ -19,7 +18,8 @@ read_blocks-requires-clause-blocks g c =
     omega (arith, c.requires.shape.fits, c.split_at_mut-block.ensures.front_len)
 
 pub returns-clause-stands : goal.returns-clause-stands
-returns-clause-stands g c =
+returns-clause-stands g c past can before stands =
+    let image = held (history_of past (g.D.Disk.device c.args.disk.now).calls) in
     let block : List ℕ = c.split_at_mut-block.result.0.now in
     let above : List ℕ = c.split_at_mut-block.result.1.now in
     let number : ℕ = 1 + c.blocks_over.result + c.args.index in
@@ -29,10 +29,9 @@ returns-clause-stands g c =
     let whole : length block ≡ 4096 = c.split_at_mut-block.ensures.front_len in
     let rest : drop 4096 c.args.room.now ≡ above = rw c.split_at_mut-block.ensures.value (drop-front block above whole) in
     let long : length c.read_blocks.new.buf ≡ 4096 = omega (arith, c.read_blocks.auto.buf) in
-    if_told (history_told (g.D.Disk.first c.args.disk.now) (g.D.Disk.calls c.args.disk.now))
-    (λ h (read : c.read_blocks.new.buf ≡ bytes_at (held h) (512 * c.args.hash.now.start + 4096 * number) (length block)) before stands.
+    let read : c.read_blocks.new.buf ≡ bytes_at image (512 * c.args.hash.now.start + 4096 * number) (length block) =
+    c.in_ok-read_blocks.ensures.bytes past can in
     rw c.note.ensures
-    (stands-next (held h) c.args.salt.now c.args.hash.now c.args.levels c.args.total c.args.index number (length c.args.room.now) c.read_blocks.new.buf above
+    (stands-next image c.args.salt.now c.args.hash.now c.args.levels c.args.total c.args.index number (length c.args.room.now) c.read_blocks.new.buf above
     c.args.notes.now c.is_right.result c.requires.shape c.requires.more c.requires.index long (rw whole at read) number_is
-    c.is_right.ensures before (rw rest at stands)))
-    c.in_ok-read_blocks.ensures.bytes
+    c.is_right.ensures before (rw rest at stands))

@@ -1,9 +1,9 @@
 -- None of the blocks before is wrong.
 use Rattle.std.proofs.Common.{◌≡◌, ◌≤◌, ◌*◌, ◌-◌, None, Ok, length}
-use Rattle.std.specs.Prelude.{IfSome, find}
+use Rattle.std.specs.Prelude.{find}
 use Rattle.std.specs.List.{range_with_len}
+use Rattle.rp_disk.specs.Device.{Known}
 use Rattle.rp_disk.specs.History.{held}
-use Rattle.rp_disk.specs.Made.{history_told}
 use Rattle.rp_tree.specs.Reads.{Reads, end_of}
 use Rattle.rp_tree.proofs.PieceLemmas.{differs_from}
 use Rattle.rp_tree.proofs.run.wrong_in.Given as goal
@@ -13,9 +13,8 @@ invariant-pieces g l = record {
   within : l.done ≤ l.count;
   some : 1 ≤ l.most;
   most : 4096 * l.most ≤ length l.buffer;
-  reads : Reads {T = Unit {0}} (end_of l.payload) (g.D.Disk.first l.initial.disk) (g.D.Disk.first l.disk) (g.D.Disk.calls l.initial.disk) (g.D.Disk.calls l.disk)
-      (g.D.Disk.strays l.initial.disk) (g.D.Disk.strays l.disk) (g.D.Disk.faults l.initial.disk) (g.D.Disk.faults l.disk) (Ok tt);
-  found : IfSome (history_told (g.D.Disk.first l.initial.disk) (g.D.Disk.calls l.initial.disk)) (λ h.
+  reads : Reads {T = Unit {0}} (end_of l.payload) (g.D.Disk.device l.initial.disk) (g.D.Disk.device l.disk) (Ok tt);
+  found : Known (g.D.Disk.device l.initial.disk) (g.D.Disk.device l.disk) (λ h.
       find (differs_from (held h) l.salt l.payload l.first l.digests) (range_with_len 0 l.done) ≡ None);
 }
 

@@ -1,14 +1,6 @@
-use Rattle.std.proofs.Common.{rules, inl}
+use Rattle.rp_disk.specs.declared.call.Call.TheVariants.{SetLen}
+use Rattle.rp_disk.proofs.Noting.{made_earlier}
 use Rattle.rp_disk.proofs.mem.MemDiskDisk.set_len.Goals as goal
 
-pub returns-clause-exact : goal.returns-clause-exact
-returns-clause-exact c = record {
-  number = search rules;
-  same = search rules;
-  outcome = inl record {
-    starved = search rules;
-    exact = record { ok = search rules; err = search rules };
-    done = search rules;
-    failed = search rules;
-  };
-}
+pub returns-clause-earlier : goal.returns-clause-earlier
+returns-clause-earlier c = made_earlier _ _ (SetLen c.args.len) _ c.ask_set_len.ensures.calls c.ask_set_len.ensures.answers

@@ -1,14 +1,13 @@
-use Rattle.std.proofs.Common.{rules, inl}
+use Rattle.rp_disk.specs.declared.call.Call.TheVariants.{Write}
+use Rattle.rp_disk.specs.MemDisk.{device_of}
+use Rattle.rp_disk.proofs.Noting.{write_earlier, write_range, write_inside}
 use Rattle.rp_disk.proofs.mem.MemDiskDisk.write.Goals as goal
 
-pub returns-clause-exact : goal.returns-clause-exact
-returns-clause-exact c = record {
-  number = search rules;
-  same = search rules;
-  outcome = inl record {
-    starved = search rules;
-    exact = record { ok = search rules; err = search rules };
-    done = search rules;
-    failed = search rules;
-  };
-}
+pub returns-clause-earlier : goal.returns-clause-earlier
+returns-clause-earlier c = write_earlier _ _ (Write c.args.at c.args.bytes.now) _ _ c.ask_write.ensures.calls c.ask_write.ensures.noted
+
+pub returns-clause-range : goal.returns-clause-range
+returns-clause-range c = write_range (device_of c.args.self.now) (device_of c.ask_write.new.self) c.args.at c.args.bytes.now _ c.ask_write.ensures.calls
+
+pub returns-clause-inside : goal.returns-clause-inside
+returns-clause-inside c = write_inside _ _ _ _ c.ask_write.ensures.noted
