@@ -15,7 +15,7 @@ from lib.program import ALL, asked, end, has, need, skip, wrong
 from lib.torture import NotRecorded, Torture
 
 # the most images for each sync
-BOUND = 300 if ALL else 30
+BOUND = 100 if ALL else 12
 
 need("strace")
 if asked("strace", "-o", "/dev/null", "true").status:
